@@ -1,1 +1,4 @@
 pub mod Numbers
+pub mod Offers
+pub mod Prices
+pub mod Rank

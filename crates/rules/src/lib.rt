@@ -1,6 +1,32 @@
 //! The plain values that all layers speak of, and in specs/ the rules of the broker in the words of its subject.
+mod call;
+mod offer;
 mod refusal;
 
+pub use call::Answer;
+pub use call::AnswerDebug;
+pub use call::AnswerPartialEq;
+pub use call::Call;
+pub use call::CallDebug;
+pub use call::CallPartialEq;
+pub use call::Estimate;
+pub use call::EstimateDebug;
+pub use call::EstimatePartialEq;
+pub use call::SlipNumbers;
+pub use call::SlipNumbersDebug;
+pub use call::SlipNumbersPartialEq;
+pub use offer::Bid;
+pub use offer::BidDebug;
+pub use offer::BidPartialEq;
+pub use offer::Offer;
+pub use offer::OfferDebug;
+pub use offer::OfferPartialEq;
+pub use offer::Quote;
+pub use offer::QuoteDebug;
+pub use offer::QuotePartialEq;
+pub use offer::Terms;
+pub use offer::TermsDebug;
+pub use offer::TermsPartialEq;
 pub use refusal::Fault;
 pub use refusal::FaultDebug;
 pub use refusal::FaultKind;
