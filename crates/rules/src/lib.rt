@@ -1,5 +1,6 @@
 //! The plain values that all layers speak of, and in specs/ the rules of the broker in the words of its subject.
 mod call;
+pub mod laws;
 mod offer;
 mod refusal;
 

@@ -1,0 +1,3 @@
+pub mod Separate
+pub mod Ranked
+pub mod Lawfully
