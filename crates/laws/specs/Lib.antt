@@ -1,0 +1,10 @@
+pub mod ByNumber
+pub mod Division
+pub mod Broker
+pub mod Calls
+pub mod Questions
+pub mod Histories
+pub mod Families
+pub mod Guarantees
+pub mod Laws
+pub mod Cases

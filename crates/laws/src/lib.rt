@@ -1,0 +1,1 @@
+//! What a broker is, what it guarantees over whole histories, and why.
