@@ -34,6 +34,7 @@ pub use refusal::FaultKind;
 pub use refusal::FaultKindDebug;
 pub use refusal::FaultKindPartialEq;
 pub use refusal::FaultPartialEq;
+pub use refusal::FaultRefusal;
 pub use refusal::Refusal;
 pub use refusal::RefusalDebug;
 pub use refusal::RefusalPartialEq;

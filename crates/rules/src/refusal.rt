@@ -1,6 +1,6 @@
 //! What can be wrong with a line or a call. Each refusal has a number that planners and offices know it by.
 ghost use mathlib.Core.Path.{_≡_};
-ghost use Rattle.rules.specs.Numbers.{kind-number, number};
+ghost use Rattle.rules.specs.Numbers.{kind-number, number, Malformed};
 
 /// What is wrong with an event line at the place where the reader stopped.
 #[derive(Clone, Copy, PartialEq, Eq, Debug, Drop)]
@@ -114,5 +114,14 @@ impl Refusal {
             Refusal::TickBeforeClock => 22,
             Refusal::NotTheOpenSlip => 23,
         }
+    }
+}
+
+/// A malformed line is refused, and the refusal keeps the reader's fault whole.
+pub impl From<Fault> for Refusal as FaultRefusal {
+    ghost converts = { λ f r. r ≡ Malformed f };
+
+    fn from(fault: Fault) -> Refusal {
+        Refusal::Malformed(fault)
     }
 }

@@ -1,0 +1,3 @@
+pub mod Figures
+pub mod Places
+pub mod Words

@@ -1,0 +1,4 @@
+pub mod Grammar
+pub mod Written
+pub mod Faults
+pub mod Reading
