@@ -1,3 +1,6 @@
 pub mod Figures
 pub mod Places
 pub mod Words
+pub mod Verdicts
+pub mod Window
+pub mod Spelling

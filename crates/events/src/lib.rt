@@ -10,6 +10,7 @@ mod word;
 pub use event::Event;
 pub use event::EventDebug;
 pub use event::EventPartialEq;
+pub use event::read;
 pub use reader::Reader;
 pub use word::Due;
 pub use word::EventKind;
