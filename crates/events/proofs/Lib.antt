@@ -4,3 +4,4 @@ pub mod Words
 pub mod Verdicts
 pub mod Window
 pub mod Spelling
+pub mod Cutting
