@@ -5,3 +5,4 @@ pub mod Verdicts
 pub mod Window
 pub mod Spelling
 pub mod Cutting
+pub mod Telling

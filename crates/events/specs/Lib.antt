@@ -3,3 +3,4 @@ pub mod Written
 pub mod Faults
 pub mod Reading
 pub mod Input
+pub mod Told

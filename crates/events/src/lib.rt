@@ -4,6 +4,7 @@
 //! the first fault from the left; `Event::write` puts the line of an event into a lent buffer; `Lines` cuts an input
 //! into its lines.
 mod event;
+mod line_fault;
 mod lines;
 mod reader;
 mod word;
@@ -12,6 +13,7 @@ pub use event::Event;
 pub use event::EventDebug;
 pub use event::EventPartialEq;
 pub use event::read;
+pub use line_fault::LineFault;
 pub use lines::Lines;
 pub use lines::LinesIterator;
 pub use reader::Reader;

@@ -1,5 +1,5 @@
 -- A text that grows piece by piece, each time cut at 128 bytes, is what it would be had the whole been cut once.
-use mathlib.Core.Path.{_≡_, refl, sym, ap, _∙_}
+use mathlib.Core.Path.{_≡_, sym, ap, subst, _∙_}
 use mathlib.Core.List.{List, [], _∷_, _++_, append-nil, append-assoc}
 use mathlib.Core.Logic.{⊎-elim}
 use Prim.Native.Nat.{ℕ, _+_, _/_, _%_, _^_, _≤_, _<_}
@@ -9,7 +9,9 @@ use Rattle.std.proofs.shelf.Lists.{length-take, length-take-le, length-push, ta
 use Rattle.std.proofs.shelf.Decimals.{decimal-digit, decimal-step}
 use Rattle.std.proofs.str.Laws.{order}
 use Rattle.std.specs.Written.{decimal}
-use Rattle.text.specs.Texts.{spelt, cut}
+use Rattle.std.specs.declared.result.Result.{Result}
+use Rattle.rules.specs.declared.refusal.Refusal.{Refusal}
+use Rattle.text.specs.Texts.{Placed, spelt, cut}
 use Rattle.text.specs.declared.text.Text.{Text}
 
 -- what fits is kept whole
@@ -59,3 +61,15 @@ pub digit-kept : (bs mid : List ℕ) (n d : ℕ) → n < 10 → mid ≡ bs → d
 digit-kept bs mid n d h e digit =
     let same : d ≡ 48 + n = omega arith in
     ap (λ xs. cut (xs ++ d ∷ [])) e ∙ ap (λ x. cut (bs ++ x ∷ [])) same ∙ ap (λ xs. cut (bs ++ xs)) (sym (decimal-digit n h))
+
+-- a text that says some bytes, cut, says these and more bytes, cut, once they are put behind
+pub grown : {mid after : List ℕ} (bs more : List ℕ) → mid ≡ cut bs → after ≡ cut (mid ++ more) → after ≡ cut (bs ++ more)
+grown bs more e f = f ∙ ap (λ xs. cut (xs ++ more)) e ∙ cut-cut bs more
+
+-- where the whole fits a text, the whole is written
+pub placed-whole : {said before after : List ℕ} {r : Result ℕ Refusal} (bs : List ℕ) → said ≡ cut bs → length bs ≤ 128 → Placed said before r after → Placed bs before r after
+placed-whole {said} {before} {after} {r} bs e fits placed = subst (λ xs. Placed xs before r after) (e ∙ cut-short bs fits) placed
+
+-- a new text, with a first piece
+pub first-piece : {start after : List ℕ} (piece : List ℕ) → start ≡ [] → after ≡ cut (start ++ piece) → after ≡ cut piece
+first-piece piece e f = f ∙ ap (λ xs. cut (xs ++ piece)) e

@@ -40,9 +40,10 @@ impl Text {
         }
     }
 
-    /// A number more, in decimal.
+    /// A number more, in decimal. It takes 20 bytes at most.
     pub fn number(&mut self, n: u64)
-        ensures { λ _. ⌜ spelt (now (self .exit)) ≡ cut (spelt (now (self .entry)) ++ decimal n) ⌝ }
+        ensures short { λ _. ⌜ length (decimal n) ≤ 20 ⌝ }
+        ensures text { λ _. ⌜ spelt (now (self .exit)) ≡ cut (spelt (now (self .entry)) ++ decimal n) ⌝ }
     {
         if n >= 10 {
             self.number(n / 10);

@@ -9,7 +9,7 @@ use Rattle.events.proofs.Spelling.{number-spelled, all-sized}
 use Rattle.events.proofs.event.spell.Needs as need
 
 pub loop-n-again : need.loop-n-again
-loop-n-again c = number-spelled _ _ _ _ _ _ (c .loop-n-test .taken) (c .loop-n .inv) (c .byte-in-loop-n .ensures) (c .number .ensures)
+loop-n-again c = number-spelled _ _ _ _ _ _ (c .loop-n-test .taken) (c .loop-n .inv) (c .byte-in-loop-n .ensures) (c .number .ensures .text)
 
 pub returns : need.returns
 returns c = record {
