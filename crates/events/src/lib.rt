@@ -4,6 +4,7 @@
 //! the first fault from the left; `Event::write` puts the line of an event into a lent buffer; `Lines` cuts an input
 //! into its lines.
 mod event;
+mod input;
 mod line_fault;
 mod lines;
 mod reader;
@@ -13,6 +14,8 @@ pub use event::Event;
 pub use event::EventDebug;
 pub use event::EventPartialEq;
 pub use event::read;
+pub use input::LIMIT;
+pub use input::fill;
 pub use line_fault::LineFault;
 pub use lines::Lines;
 pub use lines::LinesIterator;

@@ -39,9 +39,10 @@ impl LineFault {
     }
 
     /// Writes `line N text K at C` for a malformed line, `line N refused R` for any other, to the front of a lent
-    /// buffer, and answers the length. A buffer too short for it stays as it was.
+    /// buffer, and answers the length, at most 128. A buffer too short for it stays as it was.
     pub fn write(&self, out: &mut [u8]) -> Result<usize, Refusal>
-        ensures { λ r. ⌜ Placed (told (now (self .entry))) (now (out .entry)) r (now (out .exit)) ⌝ }
+        ensures short { λ _. ⌜ length (told (now (self .entry))) ≤ 128 ⌝ }
+        ensures placed { λ r. ⌜ Placed (told (now (self .entry))) (now (out .entry)) r (now (out .exit)) ⌝ }
     {
         self.text().write(out)
     }
