@@ -31,13 +31,22 @@ fn print_fault<W: Write>(fault: LineFault, out: &mut W) -> io::Result<()> {
 pub fn report<W: Write>(input: &[u8], out: &mut W) -> io::Result<Tally>
     ensures { λ r. ⌜ made r (Checked (now (input .entry))) ⌝ }
 {
-    let mut tally = Tally { lines: 0, events: 0 };
+    let mut tally = Tally {
+        lines: 0,
+        events: 0,
+    };
     let mut lines = Lines::new(input);
     while let Some(line) = lines.next() {
         tally.lines += 1;
         match read(line) {
             Ok(_) => tally.events += 1,
-            Err(refusal) => print_fault(LineFault { line: tally.lines, refusal }, out)?,
+            Err(refusal) => print_fault(
+                LineFault {
+                    line: tally.lines,
+                    refusal,
+                },
+                out,
+            )?,
         }
     }
     Ok(tally)

@@ -59,7 +59,7 @@ pub enum Event {
 }
 
 /// The event of a kind with these numbers, of which it takes as many as its line has.
-fn say(k: EventKind, ns: [u32; 5]) -> Event
+fn event_of(k: EventKind, ns: [u32; 5]) -> Event
     requires { ⌜ length ns ≡ 5 ⌝ }
     ensures kind { λ r. ⌜ kind r ≡ k ⌝ }
     ensures numbers { λ r. ⌜ numbers r ≡ take (count k) ns ⌝ }
@@ -94,7 +94,7 @@ fn judge(line: &[u8]) -> Result<Event, Refusal>
     let form = reader.form()?;
     let numbers = reader.numbers(form)?;
     reader.finish()?;
-    Ok(say(form.kind, numbers))
+    Ok(event_of(form.kind, numbers))
 }
 
 /// The event that a line says, or the first fault from the left. Of the line the first 80 bytes decide.
