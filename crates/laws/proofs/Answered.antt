@@ -24,7 +24,8 @@ use Rattle.laws.specs.Division.{minimum-of, bid-of}
 use Rattle.laws.specs.Broker.{Broker, holding, maximum-of, present, MayTake, IsOutbid, LowestPayer}
 use Rattle.laws.specs.Calls
 use Rattle.laws.specs.Calls.{Step, IsClear, entries}
-use Rattle.laws.specs.Laws.{EveryCallIsAnswered}
+use Rattle.laws.specs.Questions.{LowestIs}
+use Rattle.laws.specs.Laws.{EveryCallIsAnswered, LowestPayerIsFound}
 use Rattle.laws.proofs.Sums.{In, below-or-not}
 use Rattle.laws.proofs.Payer.{payer}
 use Rattle.laws.proofs.One.{one-payer}
@@ -156,6 +157,24 @@ module _ (m : Meaning) (l : Lawful m) (b : Broker) (k : Kept b) where
 
   pub answers : (x : Call) → (a : Answer) × (d : Broker) × Step m b x a d
   answers x = elim (settle (entries m b x) (decided x)) [ inl (r, f) ↦ (Refused r, b, Calls.refused f) | inr clear ↦ accepted x clear ]
+
+-- the lowest payer, or none
+module _ (m : Meaning) where
+  one-lowest : (b : Broker) (p q : Option ℕ) → LowestIs m b p → LowestIs m b q → p ≡ q
+  one-lowest b (Some p) (Some q) u v = ap Some (one-payer m b p q u v)
+  one-lowest b (Some p) None u v = absurd (v p (u .beyond))
+  one-lowest b None (Some q) u v = absurd (u q (v .beyond))
+  one-lowest b None None u v = refl
+
+  some-lowest : (l : Lawful m) (b : Broker) → Kept b → (p : Option ℕ) × LowestIs m b p
+  some-lowest l b k =
+      elim (below-or-not 256 (minimum-of (present b)) (holding b)) [
+        | inl (d, i, g) ↦ let (p, y) = payer (contest-of m l b k) (holding b) (held-fits m l b k) d g in (Some p, record { beyond = y .beyond; lowest = y .lowest })
+        | inr a ↦ (None, λ c g. omega (arith, a c (contest-of m l b k .numbered c (omega (arith, g, held-fits m l b k c))), g))
+      ]
+
+pub lowest-payer-is-found : LowestPayerIsFound
+lowest-payer-is-found = record { one = one-lowest; found = λ m l h b r. some-lowest m l b (history-kept m l h b r) }
 
 pub every-call-is-answered : EveryCallIsAnswered
 every-call-is-answered m l h b r x = answers m l b (history-kept m l h b r) x

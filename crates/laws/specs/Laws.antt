@@ -9,13 +9,15 @@
 -- EveryCallIsAnswered        a call that is not refused is accepted
 -- ListsRise                  the numbers rise along every list of refusals
 -- Asked                      a client has asked
--- RestIsReached              where only asks and deliveries are accepted, asks end and the broker comes to rest
+-- RestIsReached              where only asks and deliveries are accepted, accepted asks end and the broker comes to rest
+-- LowestPayerIsFound         there is one lowest payer, or none
 use mathlib.Core.Path.{_≡_}
 use mathlib.Core.Bool.{cond}
 use mathlib.Core.List.{List, [], _∷_, _++_}
 use mathlib.Core.Logic.{_⊎_}
 use Prim.Native.Nat.{ℕ, _+_, _≤_}
 use lib.Dec.{eqb, leb}
+use Rattle.std.specs.declared.option.Option.{Option}
 use Rattle.std.specs.declared.option.Option.the-variants.{Some, None}
 use Rattle.rules.specs.Offers.{Meaning, Lawful}
 use Rattle.rules.specs.Refusals.{Rising}
@@ -23,7 +25,7 @@ use Rattle.laws.specs.ByNumber.{total}
 use Rattle.laws.specs.Division.{Clients, AllAdmissible, Settled}
 use Rattle.laws.specs.Broker.{Client, Broker, new-broker, stack-of}
 use Rattle.laws.specs.Calls.{Call, Ask, Answer, entries, Step}
-use Rattle.laws.specs.Questions.{price-entries, client-entries}
+use Rattle.laws.specs.Questions.{price-entries, client-entries, LowestIs}
 use Rattle.laws.specs.Histories.{Event, Run, reached, Each, IsRefused, grants, AcceptsOnlyAsks, AtRest}
 use Rattle.laws.specs.Families.{Tagged, Brokers, FamilyRun, own}
 use Rattle.laws.specs.Guarantees.{room, Guarantees}
@@ -64,6 +66,10 @@ pub record ListsRise : Type 0 where
   pub prices : (b : Broker) (c count : ℕ) → Rising (price-entries b c count)
   pub clients : (b : Broker) (c : ℕ) → Rising (client-entries b c)
 
+pub record LowestPayerIsFound : Type 0 where
+  pub one : (m : Meaning) (b : Broker) (p q : Option ℕ) → LowestIs m b p → LowestIs m b q → p ≡ q
+  pub found : (m : Meaning) → Lawful m → (h : List Event) (b : Broker) → Run m new-broker h b → (p : Option ℕ) × LowestIs m b p
+
 abbrev pub Asked : ℕ → List Event → Type 0
 Asked c [] = ⊥
 Asked c (e ∷ h) = (e .call ≡ Ask c) ⊎ Asked c h
@@ -75,3 +81,6 @@ pub record RestIsReached : Type 0 where
   -- once each client has asked, with no passage open and every call refused, the broker is at rest
   pub then-rest : (m : Meaning) → Lawful m → (asked earlier : List Event) (b : Broker) → Run m new-broker (asked ++ earlier) b → b .passage ≡ None →
       Each (λ e. IsRefused (e .answer)) asked → ((c : ℕ) (x : Client) → b .clients c ≡ Some x → Asked c asked) → AtRest new-broker (asked ++ earlier)
+  -- from every broker that a history leads to, asks and deliveries lead to rest
+  pub within-reach : (m : Meaning) → Lawful m → (h : List Event) (b : Broker) → Run m new-broker h b →
+      (more : List Event) × (d : Broker) × Run m b more d × AcceptsOnlyAsks more × AtRest new-broker (more ++ h)

@@ -1,6 +1,6 @@
 //! What a broker is, what it guarantees over whole histories, and why. The definitions stand in specs/ and the proofs in
 //! proofs/. Each function here does nothing: its contract is a law.
-ghost use Rattle.laws.specs.Laws.{DivisionIsUnique, HistoriesKeepGuarantees, FamiliesKeepGuarantees, FramesLieOnce, OneAnswer, EveryCallIsAnswered, ListsRise, RestIsReached};
+ghost use Rattle.laws.specs.Laws.{DivisionIsUnique, HistoriesKeepGuarantees, FamiliesKeepGuarantees, FramesLieOnce, OneAnswer, EveryCallIsAnswered, ListsRise, RestIsReached, LowestPayerIsFound};
 ghost use Rattle.laws.specs.Cases.{WorkedExamples};
 
 /// Of the divisions of the same frames among the same clients, one is settled.
@@ -39,8 +39,14 @@ pub fn refusal_numbers_rise()
     ensures { λ _. ⌜ ListsRise ⌝ }
 {}
 
+/// There is one lowest payer, or none.
+pub fn lowest_payer_is_found()
+    ensures { λ _. ⌜ LowestPayerIsFound ⌝ }
+{
+}
+
 /// Where nothing but asks and deliveries is accepted, accepted asks end, and once each client has asked again the broker is
-/// at rest.
+/// at rest. So every broker can be brought to rest.
 pub fn rest_is_reached()
     ensures { λ _. ⌜ RestIsReached ⌝ }
 {}
