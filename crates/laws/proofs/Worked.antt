@@ -1,19 +1,28 @@
 -- The worked examples, by computing.
 use mathlib.Core.Path.{_≡_, refl, ap, _∙_}
 use mathlib.Core.Bool.{Bool, true, false, cond}
+use mathlib.Core.List.{List, [], _∷_}
 use mathlib.Core.Logic.{_≢_, _⊎_, inl, inr}
 use Prim.Native.Nat.{ℕ, zero, suc, _+_, _≤_, _<_, min}
 use native.Mathlib.Omega.{arith}
+use lib.Chars.{codes}
 use lib.Dec.{eqb, ltb, leb}
+use lib.ListN.{length}
+use Rattle.std.proofs.shelf.Decimals.{decimal-digit}
 use Rattle.std.proofs.shelf.Tests.{cases-lt, cases-eq, both-ways}
 use Rattle.std.proofs.shelf.Ways.{tells}
 use Rattle.std.specs.declared.option.Option.the-variants.{None}
 use Rattle.rules.specs.Offers.{Meaning}
 use Rattle.rules.specs.Prices.{share}
 use Rattle.rules.specs.Rank.{above, ranks}
+use Rattle.rules.specs.declared.refusal.FaultKind.the-variants as fault
+use Rattle.events.specs.declared.word.EventKind.the-variants.{Ask}
+use Rattle.events.specs.Grammar.{spelled}
+use Rattle.events.specs.Faults
+use Rattle.events.specs.Faults.{Begins, fault-at}
 use Rattle.laws.specs.ByNumber.{upto, total}
 use Rattle.laws.specs.Division.{Clients, Settled, terms, minimum-of, capped, bid-of}
-use Rattle.laws.specs.Cases.{three, trio, WorkedExamples}
+use Rattle.laws.specs.Cases.{three, trio, HasFault, WorkedExamples}
 
 -- a test of the numbers below n
 every : ℕ → (ℕ → Bool) → Bool
@@ -65,6 +74,22 @@ settled-by m F cs n none ones pairs sums =
 none-past : (l h x y z c : ℕ) → 4 ≤ c → (trio l h c ≡ None) × (three x y z 0 c ≡ 0)
 none-past l h x y z c g = (grind (arith, tells), grind (arith, tells))
 
+-- a letter and no space
+asks-nobody : HasFault (codes "Q") 2 2
+asks-nobody =
+    let begins : Begins (codes "Q") Ask [] [] = record { whole = refl; sized = tt; ended = tt } in
+    (fault-at fault.Space 2, Faults.no-space begins (omega arith) (λ more e. no-cons e), refl, refl)
+  where
+    no-cons : {n : ℕ} {more : List ℕ} → _≡_ {A = List ℕ} [] (n ∷ more) → ⊥
+    no-cons e = let z : _≡_ {A = ℕ} 0 1 = cc in omega arith
+
+-- a letter, its number and one space more
+goes-on : HasFault (codes "Q 3 ") 4 4
+goes-on =
+    let three-is = decimal-digit 3 (omega arith) in
+    let begins : Begins (codes "Q 3 ") Ask (3 ∷ []) (32 ∷ []) = record { whole = rw three-is; sized = omega arith; ended = refl } in
+    (fault-at fault.Excess (length (spelled Ask (3 ∷ [])) + 1), Faults.no-end begins refl (λ e. let z : _≡_ {A = ℕ} 0 1 = cc in omega arith), refl, rw three-is)
+
 pub worked-examples : WorkedExamples
 unfolding every between stands above ranks upto
 worked-examples =
@@ -77,4 +102,6 @@ worked-examples =
       a-minimum = settled-by share 7 (trio 1 7) (three 4 2 1 0) (none-past 1 7 4 2 1) refl refl refl;
       maximums = settled-by share 7 (trio 0 2) (three 2 2 2 0) (none-past 0 2 2 2 2) refl refl refl;
       one-free = refl;
+      no-space = asks-nobody;
+      no-end = goes-on;
     }

@@ -42,8 +42,7 @@ pub fn refusal_numbers_rise()
 /// There is one lowest payer, or none.
 pub fn lowest_payer_is_found()
     ensures { λ _. ⌜ LowestPayerIsFound ⌝ }
-{
-}
+{}
 
 /// Where nothing but asks and deliveries is accepted, accepted asks end, and once each client has asked again the broker is
 /// at rest. So every broker can be brought to rest.
