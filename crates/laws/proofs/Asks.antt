@@ -1,12 +1,11 @@
 -- In a stretch that accepts nothing but asks and deliveries, the accepted asks are bounded.
 use mathlib.Core.Path.{_≡_, refl, sym, ap, subst, _∙_}
 use mathlib.Core.Bool.{true, false}
-use mathlib.Core.List.{List, [], _∷_, _++_}
+use mathlib.Core.List.{List, _∷_, _++_}
 use mathlib.Core.Logic.{_⊎_}
 use Prim.Native.Nat.{ℕ, _+_, _≤_, _<_}
 use native.Mathlib.Omega.{arith}
 use lib.ListN.{length}
-use Rattle.std.specs.declared.option.Option.{Option}
 use Rattle.std.specs.declared.option.Option.the-variants.{Some}
 use Rattle.rules.specs.declared.call.Call.{Call}
 use Rattle.rules.specs.declared.call.Call.the-variants.{Ask}
@@ -15,7 +14,7 @@ use Rattle.rules.specs.Offers.{Meaning, Lawful}
 use Rattle.rules.specs.Rank.{above}
 use Rattle.laws.specs.ByNumber.{total, put}
 use Rattle.laws.specs.Division.{Clients, terms, minimum-of, bid-of}
-use Rattle.laws.specs.Broker.{Broker, Client, new-broker, present, holding, maximum-of, terms-of, MayTake}
+use Rattle.laws.specs.Broker.{Broker, new-broker, present, holding, maximum-of, MayTake}
 use Rattle.laws.specs.Calls
 use Rattle.laws.specs.Calls.{Step, IsClear, with-stack}
 use Rattle.laws.specs.Histories.{Event, event, Run, start, then, reached, grants, IsAccepted, AskOrDelivery, AcceptsOnlyAsks}

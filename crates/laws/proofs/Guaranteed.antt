@@ -1,20 +1,16 @@
 -- Every history keeps the three guarantees, and so does each of several brokers alone.
 use mathlib.Core.Path.{_≡_, sym, subst, subst₂}
-use mathlib.Core.Bool.{cond}
-use mathlib.Core.List.{List, [], _∷_}
+use mathlib.Core.List.{List, _∷_}
 use mathlib.Core.Logic.{inl, inr}
 use Prim.Native.Nat.{ℕ}
 use lib.Dec.{eqb}
 use Rattle.std.proofs.shelf.Tests.{cases-eq, eq-eqb, ne-eqb, cond-true, cond-false}
-use Rattle.rules.specs.declared.call.Call.{Call}
-use Rattle.rules.specs.declared.call.Answer.{Answer}
-use Rattle.rules.specs.Offers.{Meaning, Lawful}
+use Rattle.rules.specs.Offers.{Meaning}
 use Rattle.laws.specs.ByNumber.{put}
 use Rattle.laws.specs.Broker.{Broker, new-broker}
 use Rattle.laws.specs.Calls.{Step}
 use Rattle.laws.specs.Histories.{Event, event, Run, start, then}
-use Rattle.laws.specs.Families.{Brokers, Tagged, tagged, FamilyRun, begin, next, own}
-use Rattle.laws.specs.Guarantees.{Guarantees}
+use Rattle.laws.specs.Families.{Brokers, Tagged, FamilyRun, begin, next, own}
 use Rattle.laws.specs.Laws.{HistoriesKeepGuarantees, FamiliesKeepGuarantees}
 use Rattle.laws.proofs.Puts.{put-at, put-off}
 use Rattle.laws.proofs.Asks.{asks-are-bounded}

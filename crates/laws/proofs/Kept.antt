@@ -11,12 +11,12 @@ use Rattle.std.specs.declared.option.Option.{Option}
 use Rattle.std.specs.declared.option.Option.the-variants.{Some, None}
 use Rattle.rules.specs.declared.call.Estimate.{Estimate}
 use Rattle.rules.specs.declared.offer.Terms.{Terms}
-use Rattle.rules.specs.declared.call.Call.the-variants.{Start, Admit, Ask, SetEstimate}
+use Rattle.rules.specs.declared.call.Call.the-variants.{Start, Admit}
 use Rattle.rules.specs.Offers.{Meaning}
 use Rattle.rules.specs.Refusals.{Outside}
 use Rattle.laws.specs.ByNumber.{total, Numbered, put}
 use Rattle.laws.specs.Division.{Clients, Admissible, terms, minimum-of}
-use Rattle.laws.specs.Broker.{Broker, Client, new-broker, present, holding, maximum-of, active-of, terms-of, stack-of}
+use Rattle.laws.specs.Broker.{Broker, Client, new-broker, present, active-of, terms-of, stack-of}
 use Rattle.laws.specs.Calls.{IsClear, numbers, lasting, lasts, with-stack, with-estimate}
 use Rattle.laws.proofs.Sums.{upto-same, upto-zero}
 use Rattle.laws.proofs.Puts.{put-off, put-each, put-sum}

@@ -8,7 +8,7 @@ use Rattle.std.proofs.shelf.Tests.{cases-lt, both-ways}
 use Rattle.laws.specs.ByNumber.{total, Numbered, put}
 use Rattle.laws.proofs.Puts.{each-but, each-but-two, put-at, put-off, put-sum}
 use Rattle.laws.proofs.Contest.{Contest, Can, no-rise}
-use Rattle.laws.proofs.Payer.{Payer, Yields}
+use Rattle.laws.proofs.Payer.{Yields}
 
 -- the peaks, with one higher by one
 abbrev pub raise : ℕ → (ℕ → ℕ) → ℕ → ℕ

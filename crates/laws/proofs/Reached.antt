@@ -19,7 +19,7 @@ use Rattle.laws.specs.ByNumber.{Numbered}
 use Rattle.laws.specs.Broker.{Broker, Client, new-broker}
 use Rattle.laws.specs.Calls
 use Rattle.laws.specs.Calls.{Step, RefusedBy, IsClear, entries}
-use Rattle.laws.specs.Histories.{Event, event, Run, start, then, reached, Each, grant, grants, IsRefused, AcceptsOnlyAsks, TurnsAway, TurnedAway, AtRest}
+use Rattle.laws.specs.Histories.{Event, event, Run, start, then, Each, grant, grants, IsRefused, AcceptsOnlyAsks, TurnsAway, TurnedAway, AtRest}
 use Rattle.laws.specs.Guarantees.{room}
 use Rattle.laws.specs.Laws.{Asked, RestIsReached}
 use Rattle.laws.proofs.Sums.{In}
@@ -33,12 +33,6 @@ grants-append : (more h : List Event) → grants (more ++ h) ≡ grants more + g
 unfolding grants
 grants-append [] h = omega arith
 grants-append (e ∷ more) h = omega (arith, grants-append more h)
-
-asks-end : (m : Meaning) → Lawful m → (more stretch earlier : List Event) (b : Broker) → Run m new-broker (more ++ (stretch ++ earlier)) b →
-    AcceptsOnlyAsks (more ++ stretch) → room (reached new-broker earlier) ≤ grants stretch → grants more ≡ 0
-asks-end m l more stretch earlier b r a full =
-    let bound = asks-are-bounded m l (more ++ (stretch ++ earlier)) b r [] (more ++ stretch) earlier (sym (append-assoc more stretch earlier)) a in
-    omega (arith, bound, grants-append more stretch)
 
 -- an ask of an admitted client that is refused with no passage open turns it away
 module _ (m : Meaning) (b : Broker) (c : ℕ) (i : Numbered c) (x : Client) (there : b .clients c ≡ Some x) (closed : b .passage ≡ None) where
@@ -196,4 +190,11 @@ module _ (m : Meaning) (l : Lawful m) where
         elim (round s d q only) [ inl x ↦ x | inr (t, e, there, only-there, more) ↦ reach n t e there only-there (omega arith) ]
 
 pub rest-is-reached : RestIsReached
-rest-is-reached = record { asks-end = asks-end; then-rest = then-rest; within-reach = λ m l h b r. reach m l h b r (room b) [] b start tt (omega arith) }
+rest-is-reached =
+    record {
+      asks-end = λ m l more stretch earlier b r a full.
+          let bound = asks-are-bounded m l (more ++ (stretch ++ earlier)) b r [] (more ++ stretch) earlier (sym (append-assoc more stretch earlier)) a in
+          omega (arith, bound, grants-append more stretch);
+      then-rest = then-rest;
+      within-reach = λ m l h b r. reach m l h b r (room b) [] b start tt (omega arith);
+    }

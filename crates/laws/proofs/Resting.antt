@@ -1,6 +1,6 @@
 -- Where every client is at its maximum or outbid, the holdings are settled.
 use mathlib.Core.Path.{_≡_}
-use mathlib.Core.Bool.{true, false}
+use mathlib.Core.Bool.{false}
 use mathlib.Core.Logic.{_⊎_, inl, inr}
 use Prim.Native.Nat.{ℕ, _+_, _≤_, _<_, min}
 use native.Mathlib.Omega.{arith}
@@ -8,7 +8,7 @@ use Rattle.std.proofs.shelf.Tests.{cases-lt, cases-bool, both-ways}
 use Rattle.laws.specs.ByNumber.{total, Numbered}
 use Rattle.laws.proofs.Sums.{In, upto-le, upto-lt, upto-same, below-or-not}
 use Rattle.laws.proofs.Contest.{Contest, Exchange}
-use Rattle.laws.proofs.Payer.{Payer, Yields, payer}
+use Rattle.laws.proofs.Payer.{Yields, payer}
 
 -- nothing is free, and c may take from nobody
 abbrev pub OutbidAt : (K : Contest) → (ℕ → ℕ) → ℕ → ℕ → Type 0

@@ -1,6 +1,6 @@
 -- At rest the holdings are the settled division, and the only one.
 use mathlib.Core.Path.{_≡_, refl, ap, subst}
-use mathlib.Core.List.{List, [], _∷_, _++_}
+use mathlib.Core.List.{List, _++_}
 use mathlib.Core.Logic.{_⊎_, inl, inr}
 use Prim.Native.Nat.{ℕ, _≤_}
 use native.Mathlib.Omega.{arith}
@@ -11,20 +11,19 @@ use Rattle.rules.specs.declared.call.Call.{Call}
 use Rattle.rules.specs.declared.call.Call.the-variants.{Ask}
 use Rattle.rules.specs.declared.call.Answer.{Answer}
 use Rattle.rules.specs.declared.call.Answer.the-variants.{Refused}
-use Rattle.rules.specs.declared.refusal.Refusal.{Refusal}
 use Rattle.rules.specs.declared.refusal.Refusal.the-variants.{AtMaximum, Outbid}
 use Rattle.rules.specs.Offers.{Meaning, Lawful}
 use Rattle.laws.specs.ByNumber.{Numbered}
 use Rattle.laws.specs.Division.{Settled, capped, minimum-of}
 use Rattle.laws.specs.Broker.{Broker, Client, new-broker, present, holding, maximum-of, IsOutbid}
 use Rattle.laws.specs.Calls.{Step, RefusedBy, Absent}
-use Rattle.laws.specs.Histories.{Event, event, Run, start, then, reached, IsAccepted, TurnsAway, TurnedAway, AtRest}
+use Rattle.laws.specs.Histories.{Event, event, Run, start, then, reached, TurnsAway, TurnedAway, AtRest}
 use Rattle.laws.specs.Guarantees.{RestsSettled}
 use Rattle.laws.proofs.Unique.{division-is-unique}
 use Rattle.laws.proofs.Resting as resting
 use Rattle.laws.proofs.Resting.{OutbidAt}
 use Rattle.laws.proofs.Kept.{Kept, high-of}
-use Rattle.laws.proofs.Runs.{contest-of, cap-is, held-fits, unchanged, refused-by, history-kept, earlier-run, lands}
+use Rattle.laws.proofs.Runs.{contest-of, cap-is, held-fits, unchanged, refused-by, history-kept, earlier-run}
 
 -- the client can get nothing: it is at its maximum, or outbid
 abbrev pub GetsNothing : Meaning → Broker → ℕ → Type 0

@@ -12,7 +12,7 @@ use Rattle.rules.specs.declared.call.Answer.{Answer}
 use Rattle.rules.specs.declared.call.Answer.the-variants.{Refused}
 use Rattle.rules.specs.declared.refusal.Refusal.{Refusal}
 use Rattle.rules.specs.Offers.{Meaning, Lawful}
-use Rattle.laws.specs.Division.{capped, minimum-of}
+use Rattle.laws.specs.Division.{capped}
 use Rattle.laws.specs.Broker.{Broker, new-broker, present, holding, maximum-of, active-of, MayTake}
 use Rattle.laws.specs.Calls
 use Rattle.laws.specs.Calls.{Step, IsClear, RefusedBy}

@@ -1,7 +1,7 @@
 -- Under the share price, with every minimum within its client's proportional share: who is outbid has its share, rounded
 -- down, and who loses a frame had more.
 use mathlib.Core.Path.{_≡_, ap}
-use mathlib.Core.Bool.{true, false}
+use mathlib.Core.Bool.{true}
 use mathlib.Core.Logic.{_⊎_, inl, inr}
 use Prim.Native.Nat.{ℕ, _+_, _*_, _≤_, _<_}
 use native.Mathlib.Omega.{arith}
@@ -10,7 +10,7 @@ use Rattle.std.proofs.shelf.Tests.{cases-lt, cases-bool, both-ways}
 use Rattle.laws.specs.ByNumber.{total}
 use Rattle.laws.proofs.Sums.{In, upto-lt, upto-times, below-or-not, below-too, at-le-upto}
 use Rattle.laws.proofs.Contest.{Contest, Can}
-use Rattle.laws.proofs.Payer.{Payer, Yields, payer}
+use Rattle.laws.proofs.Payer.{Yields, payer}
 use Rattle.laws.proofs.Resting.{OutbidAt}
 
 -- j frames are within the part of a shares, and k are more than the part of b

@@ -11,12 +11,9 @@ use Rattle.std.proofs.shelf.Tests.{cases-lt, cases-eq}
 use Rattle.std.proofs.shelf.Ways.{tells}
 use Rattle.std.specs.declared.option.Option.{Option}
 use Rattle.std.specs.declared.option.Option.the-variants.{Some, None}
-use Rattle.rules.specs.declared.offer.Quote.{Quote}
 use Rattle.rules.specs.declared.call.Call.{Call}
-use Rattle.rules.specs.declared.call.Call.the-variants.{Ask, HandBack, Leave}
+use Rattle.rules.specs.declared.call.Call.the-variants.{HandBack, Leave}
 use Rattle.rules.specs.declared.call.Answer.{Answer}
-use Rattle.rules.specs.declared.call.Answer.the-variants.{Refused}
-use Rattle.rules.specs.declared.refusal.Refusal.the-variants.{AtMaximum, Outbid}
 use Rattle.rules.specs.Offers.{Meaning, Lawful}
 use Rattle.rules.specs.Rank.{above, ranks, offer-of}
 use Rattle.rules.specs.Laws.{Made}
@@ -24,7 +21,7 @@ use Rattle.laws.specs.ByNumber.{total, put}
 use Rattle.laws.specs.Division.{Clients, terms, minimum-of, capped, bid-of}
 use Rattle.laws.specs.Broker.{Broker, Client, new-broker, present, holding, maximum-of, shares-of, all-shares, share-of, MinimumsWithin, terms-of, MayTake}
 use Rattle.laws.specs.Calls
-use Rattle.laws.specs.Calls.{Step, Absent, RefusedBy, with-stack, with-estimate, lasts, lasting}
+use Rattle.laws.specs.Calls.{Step, Absent, with-stack, with-estimate, lasts, lasting}
 use Rattle.laws.specs.Histories.{Event, event, Run, start, then, reached, Each, Throughout, smallest, TurnsAway, Keeps}
 use Rattle.laws.specs.Guarantees.{TellsShare}
 use Rattle.laws.proofs.Puts.{put-at, put-off}
@@ -32,7 +29,7 @@ use Rattle.laws.proofs.Contest.{Can}
 use Rattle.laws.proofs.Unique.{made}
 use Rattle.laws.proofs.Shares.{outbid-has-part, loser-had-more}
 use Rattle.laws.proofs.Kept.{Kept, new-kept, high-of, held-of, none-some, some-there, same-terms}
-use Rattle.laws.proofs.Runs.{ask-room, contest-of, cap-is, held-fits, yields, from-other, refused-by, history-kept, run-kept, earlier-run, later-run, lands}
+use Rattle.laws.proofs.Runs.{ask-room, contest-of, cap-is, held-fits, yields, from-other, history-kept, run-kept, earlier-run, later-run, lands}
 use Rattle.laws.proofs.Rests.{GetsNothing, turned, outbid-at}
 
 -- of things by number with one replaced, each is the new one or as it was
@@ -53,9 +50,11 @@ module _ (c : ℕ) (d e : Broker) (x : Client) (there : d .clients c ≡ Some x)
   as-it-was : e .clients c ≡ d .clients c → Stays c d e
   as-it-was q = record { there = (x, q ∙ there); maximum = ap high-of q; enough = inl (omega (arith, ap held-of q)) }
 
-  not-less : (y : Client) → e .clients c ≡ Some y → y .maximum ≡ x .maximum → length (x .stack) ≤ length (y .stack) → Stays c d e
-  not-less y q g h =
-      record { there = (y, q); maximum = omega (arith, ap high-of q, ap high-of there, g); enough = inl (omega (arith, ap held-of q, ap held-of there)) }
+  -- the client is the one at q, and its record is another with the same maximum and no fewer frames
+  not-less : (q : ℕ) (z y : Client) → d .clients q ≡ Some z → c ≡ q → e .clients c ≡ Some y → y .maximum ≡ z .maximum → length (z .stack) ≤ length (y .stack) → Stays c d e
+  not-less q z y i same at g h =
+      let here : d .clients c ≡ Some z = cc in
+      record { there = (y, at); maximum = omega (arith, ap high-of at, ap high-of here, g); enough = inl (omega (arith, ap held-of at, ap held-of here)) }
 
   -- one client is replaced: this one, or it is as it was
   replaced : (q : ℕ) (o : Option Client) → e .clients c ≡ put (d .clients) q o c → (c ≡ q → e .clients c ≡ o → Stays c d e) → Stays c d e
@@ -122,14 +121,11 @@ module _ (m : Meaning) (l : Lawful m) (share-told : TellsShare m) where
         replaced c d e x there q (Some (record { shares = s; class = u; minimum = v; maximum = h; estimate = None; stack = [] })) refl
         (λ same at. absurd (clear .1 .1 .1 .1 .1 .0 (λ none. none-some none (subst (λ (i : ℕ). d .clients i ≡ Some x) same there))))
     step-stays y a e n (Calls.granted-free {c = q} {f = f} {x = z} clear i j) =
-        replaced c d e x there q (Some (with-stack z (f ∷ z .stack))) refl
-        (λ same at. let z-is : z ≡ x = cc in
-        not-less c d e x there (with-stack z (f ∷ z .stack)) at (ap (λ (u : Client). u .maximum) z-is) (omega (arith, ap (λ (u : Client). length (u .stack)) z-is)))
+        let o = with-stack z (f ∷ z .stack) in
+        replaced c d e x there q (Some o) refl (λ same at. not-less c d e x there q z o i same at refl (omega arith))
     step-stays y a e n (Calls.granted-from {c = q} {p = p} {f = f} {fs = fs} {x = z} {y = u} clear i j t v s) =
         elim (put-there (put (d .clients) p (Some (with-stack u fs))) q (Some (with-stack z (f ∷ z .stack))) c) [
-          | inl (same, at) ↦
-              let z-is : z ≡ x = cc in
-              not-less c d e x there (with-stack z (f ∷ z .stack)) at (ap (λ (u : Client). u .maximum) z-is) (omega (arith, ap (λ (u : Client). length (u .stack)) z-is))
+          | inl (same, at) ↦ not-less c d e x there q z (with-stack z (f ∷ z .stack)) i same at refl (omega arith)
           | inr (ne, off) ↦ elim (put-there (d .clients) p (Some (with-stack u fs)) c) [
             | inl (same, at) ↦ loses same (off ∙ at)
             | inr (other, here) ↦ as-it-was c d e x there (off ∙ here)
@@ -155,11 +151,9 @@ module _ (m : Meaning) (l : Lawful m) (share-told : TellsShare m) where
     step-stays y a e n (Calls.left {c = q} {x = z} clear i) = replaced c d e x there q None refl (λ same at. absurd (n tt .1 (ap Leave (sym same))))
     step-stays y a e n (Calls.estimated {c = q} {a = v} {e = w} {x = z} clear i) =
         let o = with-estimate z (Some (record { active = v; end = w })) in
-        replaced c d e x there q (Some o) refl
-        (λ same at. let z-is : z ≡ x = cc in
-        not-less c d e x there o at (ap (λ (u : Client). u .maximum) z-is) (omega (arith, ap (λ (u : Client). length (u .stack)) z-is)))
+        replaced c d e x there q (Some o) refl (λ same at. not-less c d e x there q z o i same at refl (omega arith))
     step-stays y a e n (Calls.clocked {t = t} clear) =
-        not-less c d e x there (with-estimate x (lasts t (x .estimate))) (ap (lasting t) there) refl (omega arith)
+        not-less c d e x there c x (with-estimate x (lasts t (x .estimate))) there refl (ap (lasting t) there) refl (omega arith)
 
   -- what holds throughout holds at the end
   at-end : (P : Broker → Type 0) (b : Broker) (h : List Event) (d : Broker) → Run m b h d → Throughout P b h → P d

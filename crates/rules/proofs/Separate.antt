@@ -1,6 +1,6 @@
 -- Tests one after another, of which the first that separates decides, are a strict weak order if each of them is.
 use mathlib.Core.Path.{_≡_, refl}
-use mathlib.Core.Bool.{Bool, true, false, cond}
+use mathlib.Core.Bool.{true, false}
 use mathlib.Core.List.{List, [], _∷_}
 use native.Mathlib.Omega.{arith}
 use Rattle.rules.specs.Rank.{Bid, Test, ranks}

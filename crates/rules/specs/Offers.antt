@@ -10,7 +10,6 @@
 -- Lawful     the meaning is that of a price that a broker may run under
 use mathlib.Core.Path.{_≡_}
 use Prim.Native.Nat.{ℕ, _*_, _^_, _≤_, _<_}
-use Rattle.std.specs.declared.option.Option.{Option}
 use Rattle.std.specs.declared.option.Option.the-variants.{Some}
 pub use Rattle.rules.specs.declared.offer.Offer.{Offer}
 pub use Rattle.rules.specs.declared.offer.Quote.{Quote}

@@ -14,7 +14,7 @@ use Prim.Native.Nat.{ℕ, _+_, _-_, _*_, _≤_, min}
 use lib.ListN.{length, getD}
 use Rattle.std.specs.declared.option.Option.{Option}
 use Rattle.std.specs.declared.option.Option.the-variants.{Some, None}
-use Rattle.rules.specs.Offers.{Offer, Quote, Meaning}
+use Rattle.rules.specs.Offers.{Meaning}
 
 abbrev pub share : Meaning
 share o = record { class = 0; top = o .shares; bottom = o .count }

@@ -1,4 +1,5 @@
-//! The plain values that all layers speak of, and in specs/ the rules of the broker in the words of its subject.
+//! The plain values that all layers speak of, and in specs/ the rules on offers, prices, rank and refusals. What a broker
+//! does with them is in `laws`.
 mod call;
 pub mod laws;
 mod offer;
