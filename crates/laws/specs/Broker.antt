@@ -4,6 +4,7 @@
 -- Client           a client admitted: its terms, its estimate or none, and its stack of frames, the top first
 -- Broker           unit, frames, tick, count of accepted asks, free stack (the top first), clients by number, open passage
 -- new-broker       no frames, no clients, tick 0
+-- active-of        the active count of an estimate, where there is one
 -- terms-of         a client's terms as they are now, with its active count where an estimate is in force
 -- stack-of         a client's stack; empty where there is no client
 -- present          the present terms of all clients

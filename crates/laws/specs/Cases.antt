@@ -3,6 +3,7 @@
 -- hundred           an offer of 100 shares, with a class, an active count or none, and a count
 -- quote             a quote of a class, a top and a bottom
 -- three             something for each of the clients 1, 2 and 3, and the same for all other numbers
+-- with-shares       a client's terms: shares, a minimum, a maximum, and no estimate
 -- trio              clients 1, 2 and 3 with 500, 300 and 100 shares: a minimum for client 3, and a maximum for all
 -- HasFault          a line has its first fault of a kind, by its number, at a column
 -- WorkedExamples    the examples, all together

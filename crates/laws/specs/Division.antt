@@ -1,13 +1,13 @@
 -- The settled division of frames among clients with their terms.
 --
--- Clients      the clients' terms by their numbers, where a number has a client
--- terms        a client's terms; a number without a client counts as one with terms of 0
--- minimum-of   a client's minimum
--- capped       a client's maximum, or the number of frames where that is less
--- bid-of       a client's bid at a count
--- Settled      the counts are the settled division of F frames under a price
--- Admissible   a client with this number and these terms can be admitted
--- AllAdmissible   every client of these can
+-- Clients         the clients' terms by their numbers, where a number has a client
+-- terms           a client's terms; a number without a client counts as one with terms of 0
+-- minimum-of      a client's minimum
+-- capped          a client's maximum, or the number of frames where that is less
+-- bid-of          a client's bid at a count
+-- Settled         the counts are the settled division of F frames under a price
+-- Admissible      a client may have this number and these terms
+-- AllAdmissible   so may every client of these
 use mathlib.Core.Path.{_≡_}
 use mathlib.Core.Logic.{_≢_}
 use Prim.Native.Nat.{ℕ, _+_, _^_, _≤_, _<_, min}

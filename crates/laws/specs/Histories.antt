@@ -8,7 +8,7 @@
 -- Throughout        something holds of the broker at each moment: at the start, and after each event
 -- smallest          the smallest number that the broker has at these moments
 -- IsAccepted, IsRefused   what an answer says
--- grants            how many asks were accepted, each answered by a slip
+-- grant, grants     how many asks are accepted by an answer, by the answers of events: those answered by a slip
 -- AskOrDelivery     the call is an ask or a delivery
 -- AcceptsOnlyAsks   nothing but asks and deliveries is accepted
 -- TurnsAway         the event is an ask of the client that is refused as at its maximum or as outbid
