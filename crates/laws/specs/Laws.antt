@@ -1,6 +1,6 @@
 -- What holds of the broker. Each law is demanded by a function of this crate and proved in proofs/.
 --
--- DivisionIsUnique           one division of the same frames among the same clients is settled
+-- DivisionIsUnique           no two different divisions of the same frames among the same clients are settled
 -- HistoriesKeepGuarantees    every history under a lawful price keeps the three guarantees
 -- FamiliesKeepGuarantees     so does each of several brokers alone
 -- times                      how often a frame lies in a stack

@@ -3,7 +3,7 @@
 ghost use Rattle.laws.specs.Laws.{DivisionIsUnique, HistoriesKeepGuarantees, FamiliesKeepGuarantees, FramesLieOnce, OneAnswer, EveryCallIsAnswered, ListsRise, RestIsReached, LowestPayerIsFound};
 ghost use Rattle.laws.specs.Cases.{WorkedExamples};
 
-/// Of the divisions of the same frames among the same clients, one is settled.
+/// No two different divisions of the same frames among the same clients are settled.
 pub fn settled_division_is_unique()
     ensures { λ _. ⌜ DivisionIsUnique ⌝ }
 {}
@@ -50,7 +50,7 @@ pub fn rest_is_reached()
     ensures { λ _. ⌜ RestIsReached ⌝ }
 {}
 
-/// The worked examples of prices and settled divisions.
+/// The worked examples of prices, settled divisions and faults of event lines, together.
 pub fn worked_examples_hold()
     ensures { λ _. ⌜ WorkedExamples ⌝ }
 {}
