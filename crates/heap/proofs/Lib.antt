@@ -1,0 +1,8 @@
+mod Orders
+mod Trees
+mod Writes
+mod Members
+mod Room
+mod Exchanges
+mod Changes
+pub mod Heaps
