@@ -1,0 +1,2 @@
+pub mod Choice
+pub mod Keys
