@@ -4,7 +4,7 @@
 -- Keyed       a ranked bid is made of this client, this minimum and this offer under a price
 -- KeyOf       a ranked bid is that of a bid under a price
 -- within      the count is at most the minimum
--- decides     a test decides where one of two wins it, and else the tests after it
+-- first       a test decides where one of two wins it, and else the tests after it
 -- outranks    one ranked bid ranks above another, by the five tests of the rank
 -- leads       one ranked bid ranks no higher than another
 -- RanksBids   ranked bids rank as the bids that they are of
@@ -30,15 +30,15 @@ KeyOf m b x = Keyed m (b .client) (b .terms .minimum) (offer-of b) x
 abbrev pub within : Ranked → Bool
 within x = leb (x .count) (x .minimum)
 
-abbrev pub decides : Bool → Bool → Bool → Bool
-decides won lost rest = cond won true (cond lost false rest)
+abbrev pub first : (Ranked → Ranked → Bool) → (Ranked → Ranked → Bool) → Ranked → Ranked → Bool
+first test rest x y = cond (test x y) true (cond (test y x) false (rest x y))
 
 abbrev pub outranks : Ranked → Ranked → Bool
-outranks x y =
-    decides (within x && not (within y)) (within y && not (within x))
-    (decides (ltb (y .quote .class) (x .quote .class)) (ltb (x .quote .class) (y .quote .class))
-    (decides (ltb (y .quote .top * x .quote .bottom) (x .quote .top * y .quote .bottom)) (ltb (x .quote .top * y .quote .bottom) (y .quote .top * x .quote .bottom))
-    (decides (ltb (x .client) (y .client)) (ltb (y .client) (x .client)) (ltb (x .count) (y .count)))))
+outranks =
+    first (λ x y. within x && not (within y))
+    (first (λ x y. ltb (y .quote .class) (x .quote .class))
+    (first (λ x y. ltb (y .quote .top * x .quote .bottom) (x .quote .top * y .quote .bottom))
+    (first (λ x y. ltb (x .client) (y .client)) (λ x y. ltb (x .count) (y .count)))))
 
 abbrev pub leads : Ranked → Ranked → Bool
 leads x y = not (outranks x y)

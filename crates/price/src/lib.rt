@@ -5,6 +5,7 @@ mod either;
 mod key;
 mod offer;
 mod share;
+mod sheet;
 mod taxed;
 mod telling;
 
@@ -16,6 +17,7 @@ pub use key::Ranked;
 pub use offer::ValidOffer;
 pub use share::SharePrice;
 pub use share::SharePricePrice;
+pub use sheet::tariff_sheet;
 pub use taxed::TaxedPrice;
 pub use taxed::TaxedPricePrice;
 pub use telling::Price;
