@@ -1,6 +1,7 @@
 //! The class price.
 ghost use mathlib.Core.Path.{_≡_};
 ghost use Rattle.rules.specs.Prices.{classed};
+ghost use Rattle.rules.proofs.Lawfully.{classed-is};
 use crate::offer::ValidOffer;
 use crate::telling::Price;
 use rules::Quote;
@@ -22,6 +23,8 @@ impl<P> ClassPrice<P> {
 
 pub impl<P: Price> Price for ClassPrice<P> as ClassPricePrice {
     ghost meaning = { λ p. classed (P·Price .meaning (p .below)) };
+
+    ghost lawful = { λ p. classed-is (P·Price .meaning (p .below)) (P·Price .lawful (p .below)) };
 
     fn quote(&self, offer: ValidOffer) -> Quote {
         let below = self.below.quote(offer);

@@ -1,5 +1,6 @@
 //! The share price.
 ghost use Rattle.rules.specs.Prices.{share};
+ghost use Rattle.rules.proofs.Lawfully.{share-is};
 use crate::offer::ValidOffer;
 use crate::telling::Price;
 use rules::Quote;
@@ -10,6 +11,8 @@ pub struct SharePrice;
 
 pub impl Price for SharePrice as SharePricePrice {
     ghost meaning = { λ _. share };
+
+    ghost lawful = { λ _. share-is };
 
     fn quote(&self, offer: ValidOffer) -> Quote {
         let offer = offer.offer();

@@ -2,6 +2,7 @@
 ghost use mathlib.Core.Path.{_≡_};
 ghost use Prim.Native.Nat.{_≤_};
 ghost use Rattle.rules.specs.Prices.{taxed, taxed-bottom};
+ghost use Rattle.rules.proofs.Lawfully.{taxed-is};
 ghost use Rattle.rules.specs.Refusals.{Replies, rate-entries};
 use crate::offer::ValidOffer;
 use crate::telling::Price;
@@ -42,6 +43,8 @@ impl TaxedPrice {
 
 pub impl Price for TaxedPrice as TaxedPricePrice {
     ghost meaning = { λ p. taxed (p .rate) };
+
+    ghost lawful = { λ p. taxed-is (p .rate) (p .«low_rate») };
 
     fn quote(&self, offer: ValidOffer) -> Quote {
         let offer = offer.offer();

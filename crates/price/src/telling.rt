@@ -12,7 +12,8 @@ pub trait Price {
     /// What the price tells of every offer.
     ghost meaning: { Self → Offer → Quote };
 
-    law lawful: { (p : Self) → Lawful (meaning p) };
+    /// That the price is lawful, for every value of its type. A member, and not a `law`, so that a price may borrow.
+    ghost lawful: { (p : Self) → Lawful (meaning p) };
 
     /// What the price tells of this offer. It refuses none.
     fn quote(&self, offer: ValidOffer) -> Quote

@@ -6,5 +6,5 @@ use Rattle.price.proofs.key.Ranked.new.Needs as need
 
 pub ghost-result : need.ghost-result
 ghost-result g c =
-    let told = g .P·Price·met .lawful (c .args .price .now) .in-range (c .args .offer .offer) (valid (c .args .offer)) in
+    let told = g .P·Price .lawful (c .args .price .now) .in-range (c .args .offer .offer) (valid (c .args .offer)) in
     (subst (λ (q : Quote). 1 ≤ q .bottom) (sym (c .quote-quote .ensures)) (told .some-bottom), tt)
