@@ -8,6 +8,8 @@ mod share;
 mod sheet;
 mod taxed;
 mod telling;
+#[cfg(test)]
+mod tests;
 
 pub use class::ClassPrice;
 pub use class::ClassPricePrice;
