@@ -2,15 +2,15 @@
 //! and how many events there are.
 mod report;
 
-use events::LIMIT;
 use events::fill;
+use events::input_buffer;
 use report::report;
 use std::error::AnyError;
 use std::io::BufWriter;
 use std::io::Write;
 
 fn check(rt: &LibcRuntime) -> Result<(), AnyError> {
-    let mut input = vec![in rt.alloc(); 0u8; LIMIT]?;
+    let mut input = input_buffer(rt.alloc())?;
     let n = fill(&mut rt.stdin(), &mut input)?;
     let mut out = BufWriter::new(rt.stdout());
     let tally = report(&input[0..n], &mut out)?;
