@@ -1,6 +1,0 @@
-//! The heap as its callers use it: with a key of one number, kept in a struct, and with a key of several fields.
-//! These examples have a crate of their own, since a crate with tests is proved twice.
-#[cfg(test)]
-mod bids;
-#[cfg(test)]
-mod ticks;

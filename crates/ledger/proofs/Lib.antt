@@ -1,0 +1,6 @@
+mod Sums
+mod Downs
+mod Moves
+mod Fills
+mod Frees
+pub mod Ledgers
