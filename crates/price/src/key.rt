@@ -2,7 +2,10 @@
 ghost use Prim.Native.Nat.{_≤_};
 use rules::Quote;
 
+mod order;
 mod rank;
+
+pub use order::RankedOrder;
 
 /// A bid with all that the rank looks at: the client's number and minimum, the count of frames, and what a price tells
 /// of the offer, whose bottom is at least 1.

@@ -8,14 +8,13 @@ mod share;
 mod sheet;
 mod taxed;
 mod telling;
-#[cfg(test)]
-mod tests;
 
 pub use class::ClassPrice;
 pub use class::ClassPricePrice;
 pub use either::EitherPrice;
 pub use either::EitherPricePrice;
 pub use key::Ranked;
+pub use key::RankedOrder;
 pub use offer::ValidOffer;
 pub use share::SharePrice;
 pub use share::SharePricePrice;

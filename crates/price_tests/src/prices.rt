@@ -1,16 +1,18 @@
-//! Worked examples, and the ends of the ranges.
-use crate::class::ClassPrice;
-use crate::class::ClassPricePrice;
-use crate::either::EitherPrice;
-use crate::either::EitherPricePrice;
-use crate::key::Ranked;
-use crate::offer::ValidOffer;
-use crate::share::SharePrice;
-use crate::share::SharePricePrice;
-use crate::sheet::tariff_sheet;
-use crate::taxed::TaxedPrice;
-use crate::taxed::TaxedPricePrice;
-use crate::telling::Price;
+//! The examples.
+use heap::Order;
+use price::ClassPrice;
+use price::ClassPricePrice;
+use price::EitherPrice;
+use price::EitherPricePrice;
+use price::Price;
+use price::Ranked;
+use price::RankedOrder;
+use price::SharePrice;
+use price::SharePricePrice;
+use price::TaxedPrice;
+use price::TaxedPricePrice;
+use price::ValidOffer;
+use price::tariff_sheet;
 use rules::Quote;
 use rules::QuoteDebug;
 use rules::QuotePartialEq;
@@ -115,7 +117,7 @@ fn bids_rank_by_minimum_then_exact_fraction_then_client() -> Result<(), Fail> {
             ValidOffer::new(shares, 0, None, count)?,
         );
         check(last.ranks_above(&next))?;
-        check(!next.ranks_above(&last))?;
+        check(next.no_later(&last) && !last.no_later(&next))?;
         last = next;
     }
     Ok(())
