@@ -1,0 +1,2 @@
+mod Views
+mod Starts

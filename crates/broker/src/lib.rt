@@ -1,0 +1,5 @@
+//! The broker: it shares the frames of one pool among up to 256 clients under a price.
+mod broker;
+mod member;
+
+pub use broker::Broker;
