@@ -59,3 +59,6 @@ stepped {P = P} meaning lawful before after {x = x} {a = a} s e =
       history = onward;
       guarantees = λ h r. guaranteed (meaning (after .price)) (lawful (after .price)) (event x a (view after) ∷ h) (view after) (onward h r);
     }
+
+pub some-same : {A : Type 0} {a b : A} → _≡_ {A = Option A} (Some a) (Some b) → a ≡ b
+some-same e = cc

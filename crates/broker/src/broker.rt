@@ -6,6 +6,7 @@ use ledger::Ledger;
 use rules::SlipNumbers;
 
 mod calls;
+mod questions;
 
 /// A broker under a price, in fixed memory. Client c stands in place c - 1 of the table, and its frames in stack c of the
 /// ledger; stack 0 has the free frames. The price never changes.

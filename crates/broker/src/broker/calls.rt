@@ -1,12 +1,14 @@
 //! The calls.
 ghost use mathlib.Core.Path.{_≡_};
 ghost use Rattle.laws.specs.Broker.{new-broker};
-ghost use Rattle.laws.specs.Calls.{Start};
+ghost use Rattle.laws.specs.Calls.{Start, Deliver};
 ghost use Rattle.broker.specs.View.{view, Guaranteed, done, Stepped};
 use super::Broker;
 use ledger::Ledger;
 use price::Price;
 use rules::Refusal;
+use rules::SlipNumbers;
+use rules::SlipNumbersPartialEq;
 
 impl<P: Price> Broker<P> {
     /// A broker under a price, without frames and clients, at tick 0.
@@ -41,5 +43,18 @@ impl<P: Price> Broker<P> {
             }
             Err(_) => Err(Refusal::AlreadyStarted),
         }
+    }
+
+    /// Closes the open passage, where these are the numbers of its slip.
+    pub(crate) fn close(&mut self, slip: SlipNumbers) -> Result<(), Refusal>
+        ensures { λ r. ⌜ Stepped (P·Price .meaning) (now (self .entry)) (Deliver slip) (done r) (now (self .exit)) ⌝ }
+    {
+        if let Some(passage) = self.passage {
+            if passage == slip {
+                self.passage = None;
+                return Ok(());
+            }
+        }
+        Err(Refusal::NotTheOpenSlip)
     }
 }
