@@ -1,2 +1,4 @@
 mod Views
 mod Starts
+mod Totals
+mod Tables

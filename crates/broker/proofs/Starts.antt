@@ -23,7 +23,7 @@ use Rattle.broker.specs.View.{client-of}
 use Rattle.broker.proofs.Views.{clients-of, seen, same-parts, same-clients}
 
 -- a table of one value has it at each place, and past its end
-same-at : {X : Type 0} (n i : ℕ) (x : X) → getD (replicate n x) i x ≡ x
+pub same-at : {X : Type 0} (n i : ℕ) (x : X) → getD (replicate n x) i x ≡ x
 same-at n i x = elim (cases-lt i n) [ inl l ↦ getD-replicate n i x x l | inr l ↦ getD-past (replicate n x) i x (omega (arith, length-replicate n x)) ]
 
 nobody : (n : ℕ) (s : ℕ → List ℕ) → clients-of (replicate n None) s ≡ (λ _. None)

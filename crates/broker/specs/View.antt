@@ -6,6 +6,8 @@
 -- History    events that lead from a new broker to this one, the latest first
 -- Guaranteed   whatever is called on a new broker, its history keeps the three guarantees
 -- done       the answer to a call that answers nothing more where it is accepted
+-- delivery   the answer to a delivery
+-- HandsBack  a refused delivery hands this slip back
 -- Stepped    a call on a broker under a price is a step of the rules, and leaves the price
 use mathlib.Core.Path.{_≡_}
 use mathlib.Core.List.{List, _∷_}
@@ -23,6 +25,8 @@ use Rattle.laws.specs.Histories.{Event, event, Run}
 use Rattle.laws.specs.Guarantees.{Guarantees}
 use Rattle.laws.proofs.Table.{by-number}
 use Rattle.ledger.specs.Ledgers.{stack-of}
+use Rattle.broker.specs.declared.slip.Slip.{Slip}
+use Rattle.broker.specs.declared.slip.Undelivered.{Undelivered}
 use Rattle.broker.specs.declared.member.Member.{Member}
 pub use Rattle.broker.specs.declared.broker.Broker.{Broker}
 
@@ -53,6 +57,15 @@ Guaranteed m = (h : List Event) (b : rules.Broker) → History m h b → Guarant
 abbrev pub done : Result (Unit {0}) Refusal → Answer
 done (Ok _) = Done
 done (Err r) = Refused r
+
+-- A delivery that is refused hands the slip back, as it was.
+abbrev pub delivery : Result (Unit {0}) Undelivered → Answer
+delivery (Ok _) = Done
+delivery (Err u) = Refused (u .refusal)
+
+abbrev pub HandsBack : Slip → Result (Unit {0}) Undelivered → Type 0
+HandsBack s (Ok _) = Unit {0}
+HandsBack s (Err u) = u .slip ≡ s
 
 -- A call may come in any history: whatever history led to the broker as it came, with this call and its answer leads to
 -- the broker as it is left, and keeps the three guarantees.

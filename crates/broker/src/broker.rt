@@ -1,6 +1,7 @@
 //! The broker and what it always keeps.
 ghost use mathlib.Core.Path.{_≡_};
 ghost use lib.ListN.{length};
+ghost use Rattle.broker.specs.Members.{InRanges, NoStray};
 use crate::member::Member;
 use ledger::Ledger;
 use rules::SlipNumbers;
@@ -19,4 +20,6 @@ pub struct Broker<P> {
     members: [Option<Member>; 256],
     ledger: Ledger,
     ghost places: { length members ≡ 256 },
+    ghost ranges: { InRanges members },
+    ghost stray: { NoStray members ledger },
 }

@@ -1,9 +1,13 @@
 //! The calls.
 ghost use mathlib.Core.Path.{_≡_};
+ghost use Rattle.rules.specs.Refusals.{Replies};
 ghost use Rattle.laws.specs.Broker.{new-broker};
-ghost use Rattle.laws.specs.Calls.{Start, Deliver};
-ghost use Rattle.broker.specs.View.{view, Guaranteed, done, Stepped};
+ghost use Rattle.laws.specs.Calls.{Start, Admit, Deliver, entries};
+ghost use Rattle.broker.specs.View.{view, Guaranteed, done, delivery, HandsBack, Stepped};
 use super::Broker;
+use crate::member::Member;
+use crate::slip::Slip;
+use crate::slip::Undelivered;
 use ledger::Ledger;
 use price::Price;
 use rules::Refusal;
@@ -56,5 +60,83 @@ impl<P: Price> Broker<P> {
             }
         }
         Err(Refusal::NotTheOpenSlip)
+    }
+
+    /// Delivers a slip, which closes its passage and spends the slip. While no passage is open, or another is, the slip is
+    /// refused and handed back.
+    pub fn deliver(&mut self, mut slip: Slip) -> Result<(), Undelivered>
+        ensures step { λ r. ⌜ Stepped (P·Price .meaning) (now (self .entry)) (Deliver (slip .numbers)) (delivery r) (now (self .exit)) ⌝ }
+        ensures slip { λ r. ⌜ HandsBack slip r ⌝ }
+    {
+        match self.close(slip.numbers) {
+            Ok(()) => {
+                slip.spent = true;
+                Ok(())
+            }
+            Err(refusal) => Err(Undelivered { refusal, slip }),
+        }
+    }
+
+    // Whether a client with these terms may be admitted.
+    fn admissible(
+        &self,
+        client: u32,
+        shares: u32,
+        class: u32,
+        minimum: u32,
+        maximum: u32,
+    ) -> Result<(), Refusal>
+        ensures { λ r. ⌜ Replies (entries (P·Price .meaning (now (self .entry) .price)) (view (now (self .entry))) (Admit client shares class minimum maximum)) (λ _. Unit {0}) r ⌝ }
+    {
+        if client < 1 || client > 256 {
+            return Err(Refusal::ClientOutOfRange);
+        }
+        if shares < 1 || shares > 1_000_000 {
+            return Err(Refusal::SharesOutOfRange);
+        }
+        if class > 9 {
+            return Err(Refusal::ClassOutOfRange);
+        }
+        if maximum == 0 || maximum < minimum {
+            return Err(Refusal::MaximumOutOfRange);
+        }
+        if self.passage.is_some() {
+            return Err(Refusal::PassageOpen);
+        }
+        let noted = self.members[client as usize - 1];
+        if noted.is_some() {
+            return Err(Refusal::AlreadyAdmitted);
+        }
+        let frames = self.ledger.frames() as u32;
+        if maximum > frames {
+            return Err(Refusal::MaximumAboveFrames);
+        }
+        if self.totals().minimums + minimum as u64 > frames as u64 {
+            return Err(Refusal::MinimumsAboveFrames);
+        }
+        Ok(())
+    }
+
+    /// Admits a client, 1 to 256, under its terms: shares of 1 to 1,000,000, a class of 0 to 9, a minimum and a maximum
+    /// of frames. It starts with no frame and no estimate.
+    pub fn admit(
+        &mut self,
+        client: u32,
+        shares: u32,
+        class: u32,
+        minimum: u32,
+        maximum: u32,
+    ) -> Result<(), Refusal>
+        ensures { λ r. ⌜ Stepped (P·Price .meaning) (now (self .entry)) (Admit client shares class minimum maximum) (done r) (now (self .exit)) ⌝ }
+    {
+        self.admissible(client, shares, class, minimum, maximum)?;
+        self.members[client as usize - 1] = Some(Member {
+            shares,
+            class: class as u8,
+            minimum,
+            maximum,
+            estimate: None,
+        });
+        Ok(())
     }
 }
