@@ -1,8 +1,7 @@
 -- What a caller knows of a heap besides what the calls say.
-use mathlib.Core.Path.{_≡_, sym, ap, _∙_}
+use mathlib.Core.Path.{_≡_, ap}
 use mathlib.Core.Bool.{Bool, true}
 use mathlib.Core.List.{List}
-use mathlib.Core.Logic.{inl, inr}
 use Prim.Native.Nat.{ℕ, _≤_, _<_}
 use native.Mathlib.Omega.{arith}
 use lib.ListN.{length}
@@ -10,18 +9,20 @@ use Rattle.std.specs.Options.{isSome}
 use Rattle.std.specs.declared.option.Option.{Option}
 use Rattle.std.specs.declared.option.Option.the-variants.{Some, None}
 use Rattle.heap.specs.declared.records.Record.{Record}
-use Rattle.heap.specs.Heaps.{owner-at, place-of, key-of, key-at, none-first, Placed, Ordered, keys, Heap, Least}
-use Rattle.heap.proofs.Orders.{Lawful, lawful, none-first-lawful}
-use Rattle.heap.proofs.Trees.{root-leads}
-use Rattle.heap.proofs.Writes.{key-some}
-use Rattle.heap.proofs.Members.{In, in-at, in-within, keys-in, keys-out, cases-in, some-in, placed-less}
+use Rattle.heap.specs.Heaps.{keys, Heap, Least}
+use Rattle.heap.proofs.Members.{keys-out, some-within}
 
--- nobody is in a heap of no places
-pub empty-keys : {K : Type 0} (xs : List (Record K)) (o : ℕ) → keys xs 0 o ≡ None
-empty-keys xs o = keys-out xs 0 o (λ s. (let l = s .low in omega arith))
+module _ {K : Type 0} where
+  -- nobody is in a heap of no places
+  pub empty-keys : (xs : List (Record K)) (o : ℕ) → keys xs 0 o ≡ None
+  empty-keys xs o = keys-out xs 0 o (λ s. (let l = s .low in omega arith))
+
+  -- who is in has a record
+  pub owner-within : (xs : List (Record K)) (n o : ℕ) (k : K) → keys xs n o ≡ Some k → o < length xs
+  owner-within xs n o k e = some-within xs n o (ap isSome e)
 
 module _ {K : Type 0} (le : K → K → Bool) where
-  -- every slice holds an empty heap
+  -- every slice has an empty heap
   pub empty-heap : (xs : List (Record K)) → Heap le xs 0
   empty-heap xs =
       (omega arith, λ i h. absurd (omega arith), λ i h. absurd (omega arith), λ k h. absurd (let l = h .1 in omega arith))
@@ -29,32 +30,6 @@ module _ {K : Type 0} (le : K → K → Bool) where
   pub heap-within : (xs : List (Record K)) (n : ℕ) → Heap le xs n → n ≤ length xs
   heap-within xs n t = t .0
 
-  pub heap-placed : (xs : List (Record K)) (n : ℕ) → Heap le xs n → Placed xs n
-  heap-placed xs n t = (t .0, t .1, t .2)
-
-  pub placed-ordered : (xs : List (Record K)) (n : ℕ) → Placed xs n → Ordered (none-first le) (key-at xs) n → Heap le xs n
-  placed-ordered xs n x o = (x .0, x .1, x .2, o)
-
-  -- who is in has a record
-  pub owner-within : (xs : List (Record K)) (n o : ℕ) (k : K) → Heap le xs n → keys xs n o ≡ Some k → o < length xs
-  owner-within xs n o k t e = in-within xs n o (heap-placed xs n t) (some-in xs n o (ap isSome e))
-
-  -- fewer places are a heap too
-  pub heap-less : (xs : List (Record K)) (m n : ℕ) → m ≤ n → Heap le xs n → Heap le xs m
-  heap-less xs m n h t = (let l = t .0 in omega arith, λ i l. t .1 i (omega arith), λ i l. t .2 i (omega arith), λ k l. t .3 k (l .0, let z = l .1 in omega arith))
-
   -- where keys that lead each other are one owner's, only one owner is least
   pub one-least : (m : ℕ → Option K) → ((p q : ℕ) (a b : K) → m p ≡ Some a → m q ≡ Some b → le a b ≡ true → le b a ≡ true → p ≡ q) → (p q : ℕ) (a b : K) → Least le m p a → Least le m q b → p ≡ q
   one-least m strict p q a b x y = strict p q a b (x .has) (y .has) (x .leads q b (y .has)) (y .leads p a (x .has))
-
-  -- the owner at place 0, with the key there
-  pub root-least : Lawful le → (xs : List (Record K)) (n o : ℕ) (k : K) → 0 < n → o ≡ owner-at xs 0 → key-at xs 0 ≡ Some k → Heap le xs n → Least le (keys xs n) o k
-  root-least law xs n o k pos eo ek t =
-      record {
-        has = keys-in xs n o (in-at xs n 0 o (heap-placed xs n t) pos (sym eo)) ∙ (ap (key-of xs) eo ∙ ek);
-        leads = λ q b e.
-            let v : In xs n q = some-in xs n q (ap isSome e) in
-            let c : key-at xs (place-of xs q) ≡ Some b = ap (key-of xs) (v .back) ∙ (sym (keys-in xs n q v) ∙ e) in
-            let h = root-leads (none-first-lawful law) (key-at xs) n (t .3) (place-of xs q) (v .low) in
-            ap {B = Bool} (λ z. none-first le z (Some b)) (sym ek) ∙ (ap (λ z. none-first le (key-at xs 0) z) (sym c) ∙ h);
-      }

@@ -5,4 +5,5 @@ mod Members
 mod Room
 mod Exchanges
 mod Changes
+mod Parts
 pub mod Heaps

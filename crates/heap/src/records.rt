@@ -7,15 +7,20 @@ ghost use Rattle.heap.specs.Heaps.{Placed, owner-at, place-of, key-at, none-fi
 ghost use Rattle.heap.specs.Steps.{Seated, Rekeyed, Exchanged};
 use super::Order;
 
-/// Record i names the owner at place i of the heap, and has the key of owner i with the place where that owner stands.
-/// Places run from the root, 0, and those below place i are 2 i + 1 and 2 i + 2.
+/// One record serves two: record i names the owner at place i of the heap, and notes the key and the place of owner i.
+/// Places run from the root, 0, and those below place i are 2 i + 1 and 2 i + 2. No owner's key leads the one above it
+/// unless the two tie.
 #[derive(Clone, Copy)]
 pub struct Record<K> {
+    /// The key of owner i.
     pub key: K,
+    /// The owner at place i.
     pub owner: usize,
+    /// The place of owner i.
     pub place: usize,
 }
 
+// The owner at place i.
 pub(crate) fn owner_at<K>(records: &[Record<K>], i: usize) -> usize
     requires { ⌜ i < length (now records) ⌝ }
     ensures { λ r. ⌜ r ≡ owner-at (now (records .entry)) i ⌝ }
@@ -23,6 +28,7 @@ pub(crate) fn owner_at<K>(records: &[Record<K>], i: usize) -> usize
     records[i].owner
 }
 
+// The place that is noted for an owner.
 pub(crate) fn place_of<K>(records: &[Record<K>], owner: usize) -> usize
     requires { ⌜ owner < length (now records) ⌝ }
     ensures { λ r. ⌜ r ≡ place-of (now (records .entry)) owner ⌝ }
@@ -30,6 +36,7 @@ pub(crate) fn place_of<K>(records: &[Record<K>], owner: usize) -> usize
     records[owner].place
 }
 
+// The key at place i.
 pub(crate) fn key_at<K>(records: &[Record<K>], count: usize, i: usize) -> &K
     requires { ⌜ Placed (now records) count × (i < count) ⌝ }
     ensures { λ r. ⌜ key-at (now (records .entry)) i ≡ Some (now r) ⌝ }

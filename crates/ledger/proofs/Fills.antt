@@ -13,7 +13,7 @@ use Rattle.std.proofs.shelf.Lists.{getD-set-same, getD-set-other, getD-past}
 use Rattle.std.proofs.shelf.Sums.{sumBy-set, getD-le-sumBy}
 use Rattle.std.proofs.shelf.Tests.{cases-lt}
 use Rattle.std.proofs.shelf.Ways.{tells}
-use Rattle.ledger.specs.Stacks.{times, summed, pooled, Once, Filled}
+use Rattle.ledger.specs.Stacks.{times, pooled, Once, Filled}
 use Rattle.ledger.specs.Linked.{down, stack, many}
 use Rattle.ledger.specs.declared.links.Links.{Links}
 use Rattle.ledger.proofs.Sums.{summed-same, summed-none, summed-one}

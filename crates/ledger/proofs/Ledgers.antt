@@ -5,7 +5,6 @@ use Prim.Native.Nat.{ℕ, _≤_, _<_}
 use native.Mathlib.Omega.{arith}
 use lib.ListN.{length, getD}
 use Rattle.ledger.specs.Stacks.{summed, Once}
-use Rattle.ledger.specs.Linked.{stack, many}
 use Rattle.ledger.specs.Ledgers.{stack-of}
 use Rattle.ledger.specs.declared.ledger.Ledger.{Ledger}
 use Rattle.ledger.proofs.Sums.{summed-same, summed-list, one-in}

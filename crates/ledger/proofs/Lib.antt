@@ -1,4 +1,4 @@
-mod Sums
+pub mod Sums
 mod Downs
 mod Moves
 mod Fills

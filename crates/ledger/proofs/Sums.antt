@@ -1,7 +1,7 @@
 -- Sums over owners, of which one or two change.
 use mathlib.Core.Path.{_≡_, refl, sym, ap, _∙_}
 use mathlib.Core.Bool.{cond}
-use mathlib.Core.List.{List, []}
+use mathlib.Core.List.{List}
 use mathlib.Core.Logic.{inl, inr}
 use Prim.Native.Nat.{ℕ, zero, suc, _+_, _≤_, _<_}
 use native.Mathlib.Omega.{arith}
@@ -33,6 +33,12 @@ summed-one g h (suc n) a l e =
       | inl p ↦ let r = summed-same g h n (λ o k. e o (λ q. omega arith)) in let u = ap g p in let v = ap h p in omega arith
       | inr d ↦ let r = summed-one g h n a (omega arith) e in let t = e n d in omega arith
     ]
+
+-- the first owner apart from the others
+pub summed-front : (g : ℕ → ℕ) (n : ℕ) → summed g (suc n) ≡ g 0 + summed (λ o. g (suc o)) n
+unfolding summed
+summed-front g zero = refl
+summed-front g (suc n) = let r = summed-front g n in omega arith
 
 -- g with another value at a
 put : (ℕ → ℕ) → ℕ → ℕ → ℕ → ℕ

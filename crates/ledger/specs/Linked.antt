@@ -5,7 +5,6 @@
 -- stacks   the same, of all three at once
 -- many     how many frames the stacks have together
 -- Sound    there are at most 4,096 frames in the stacks, and each lies in one of the 257 stacks, once
-use mathlib.Core.Path.{_≡_}
 use mathlib.Core.List.{List, [], _∷_}
 use Prim.Native.Nat.{ℕ, zero, suc, _≤_}
 use lib.ListN.{getD}

@@ -1,8 +1,5 @@
 //! Keys of one number, in a struct that keeps the heap in order.
-ghost use mathlib.Core.Path.{_≡_};
 ghost use lib.Dec.{leb};
-ghost use Prim.Native.Nat.{ℕ, _≤_, _<_};
-ghost use lib.ListN.{length};
 ghost use Rattle.heap.specs.Heaps.{Heap};
 use heap::Order;
 use heap::Record;

@@ -32,6 +32,7 @@ impl Links {
         }
     }
 
+    // How many frames an owner's stack has.
     pub(crate) fn height_of(&self, owner: usize) -> u16
         ensures { λ r. ⌜ r ≡ length (stacks (now (self .entry)) owner) ⌝ }
     {

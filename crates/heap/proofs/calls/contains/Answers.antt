@@ -5,7 +5,7 @@ use Rattle.std.specs.Options.{isSome}
 use Rattle.std.proofs.shelf.Tests.{cases-eq, eq-eqb, ne-eqb, le-ltb}
 use Rattle.heap.specs.Heaps.{owner-at, place-of}
 use Rattle.heap.proofs.Members.{in-within, is-some, keys-out}
-use Rattle.heap.proofs.Heaps.{heap-placed}
+use Rattle.heap.proofs.Parts.{heap-placed}
 use Rattle.heap.proofs.calls.contains.Needs as need
 
 pub returns-then-owner-records : need.returns-then-owner-records

@@ -1,6 +1,6 @@
 use native.Mathlib.Omega.{arith}
 use Rattle.heap.proofs.Orders.{lawful}
-use Rattle.heap.proofs.Heaps.{root-least}
+use Rattle.heap.proofs.Parts.{root-least}
 use Rattle.heap.proofs.reads.first.Needs as need
 
 pub returns : need.returns

@@ -1,4 +1,4 @@
-use mathlib.Core.Path.{_≡_, _∙_}
+use mathlib.Core.Path.{_∙_}
 use native.Mathlib.Omega.{arith}
 use Rattle.heap.proofs.Writes.{key-read}
 use Rattle.heap.proofs.Members.{some-in, keys-in, some-within}

@@ -1,4 +1,3 @@
-use mathlib.Core.Path.{sym}
 use native.Mathlib.Omega.{arith}
 use Rattle.heap.specs.Heaps.{key-at}
 use Rattle.heap.proofs.Orders.{lawful, none-first-lawful}

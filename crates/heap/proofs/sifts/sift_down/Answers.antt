@@ -1,11 +1,11 @@
-use mathlib.Core.Path.{_≡_, sym, _∙_}
+use mathlib.Core.Path.{_∙_}
 use Prim.Native.Nat.{_<_}
 use native.Mathlib.Omega.{arith}
 use Rattle.heap.specs.Heaps.{key-at}
 use Rattle.heap.proofs.Orders.{lawful, none-first-lawful}
 use Rattle.heap.proofs.Trees.{sink, sunk, at-bottom}
 use Rattle.heap.proofs.Exchanges.{exchanged-placed, exchanged-keys, exchanged-swaps}
-use Rattle.heap.proofs.Heaps.{placed-ordered}
+use Rattle.heap.proofs.Parts.{placed-ordered}
 use Rattle.heap.proofs.sifts.sift_down.Needs as need
 
 pub returns-then-leads-at : need.returns-then-leads-at

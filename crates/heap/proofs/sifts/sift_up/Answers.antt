@@ -1,10 +1,10 @@
-use mathlib.Core.Path.{_≡_, sym, _∙_}
+use mathlib.Core.Path.{_∙_}
 use native.Mathlib.Omega.{arith}
 use Rattle.heap.specs.Heaps.{above, key-at}
 use Rattle.heap.proofs.Orders.{lawful, none-first-lawful}
 use Rattle.heap.proofs.Trees.{rise, risen, at-top}
 use Rattle.heap.proofs.Exchanges.{exchanged-placed, exchanged-keys, exchanged-swaps}
-use Rattle.heap.proofs.Heaps.{placed-ordered}
+use Rattle.heap.proofs.Parts.{placed-ordered}
 use Rattle.heap.proofs.sifts.sift_up.Needs as need
 
 pub returns-then-leads-at : need.returns-then-leads-at

@@ -6,7 +6,7 @@ use Rattle.heap.proofs.Orders.{lawful, none-first-lawful}
 use Rattle.heap.proofs.Trees.{gap}
 use Rattle.heap.proofs.Members.{some-in, some-within, present-some}
 use Rattle.heap.proofs.Changes.{rekeyed-placed, rekeyed-apart, rekeyed-keys}
-use Rattle.heap.proofs.Heaps.{heap-placed}
+use Rattle.heap.proofs.Parts.{heap-placed}
 use Rattle.heap.proofs.updates.change.Needs as need
 
 pub rekey-requires : need.rekey-requires

@@ -1,7 +1,5 @@
 use mathlib.Core.Path.{_∙_, ap}
-use Prim.Native.Nat.{_<_}
 use native.Mathlib.Omega.{arith}
-use lib.ListN.{length}
 use Rattle.std.specs.Options.{isSome}
 use Rattle.heap.specs.Heaps.{key-at, present}
 use Rattle.heap.proofs.Orders.{lawful, none-first-lawful}
@@ -9,7 +7,7 @@ use Rattle.heap.proofs.Trees.{added}
 use Rattle.heap.proofs.Members.{none-out}
 use Rattle.heap.proofs.Room.{room}
 use Rattle.heap.proofs.Changes.{added-placed, added-apart, added-keys}
-use Rattle.heap.proofs.Heaps.{heap-placed}
+use Rattle.heap.proofs.Parts.{heap-placed}
 use Rattle.heap.proofs.updates.insert.Needs as need
 
 pub seat-requires : need.seat-requires

@@ -1,5 +1,5 @@
-use mathlib.Core.Path.{_≡_, refl, sym, ap, _∙_}
-use Prim.Native.Nat.{_<_, _-_, _≤_}
+use mathlib.Core.Path.{_≡_, refl, ap, _∙_}
+use Prim.Native.Nat.{_-_, _≤_}
 use native.Mathlib.Omega.{arith}
 use Rattle.heap.specs.Heaps.{owner-at, place-of, key-at, keys, Placed}
 use Rattle.heap.proofs.Orders.{lawful, none-first-lawful}
@@ -7,7 +7,7 @@ use Rattle.heap.proofs.Trees.{gap}
 use Rattle.heap.proofs.Members.{some-in, some-within, present-some, placed-less}
 use Rattle.heap.proofs.Exchanges.{exchanged-placed, exchanged-keys, exchanged-swaps}
 use Rattle.heap.proofs.Changes.{cut-keys, change-over}
-use Rattle.heap.proofs.Heaps.{heap-placed, heap-less}
+use Rattle.heap.proofs.Parts.{heap-placed, heap-less}
 use Rattle.heap.proofs.updates.remove.Needs as need
 
 pub place-of-place-requires : need.place-of-place-requires
