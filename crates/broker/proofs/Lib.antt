@@ -2,3 +2,4 @@ mod Views
 mod Starts
 mod Totals
 mod Tables
+mod Changes

@@ -63,10 +63,12 @@ pub not-there : (o : Option Member) (fs : List ℕ) → ((client-of o fs ≡ Non
 not-there None fs h = refl
 not-there (Some x) fs h = absurd (h (λ e. none-some e refl))
 
+pub noted-true : (xs : List (Option Member)) → InRanges xs → (c : ℕ) (x : Member) → by-number xs c ≡ Some x → in-ranges (Some x) ≡ true
+noted-true xs r zero x e = absurd (none-some refl e)
+noted-true xs r (suc i) x e = subst (λ (o : Option Member). in-ranges o ≡ true) e (r i)
+
 pub noted-ranges : (xs : List (Option Member)) → InRanges xs → (c : ℕ) (x : Member) → by-number xs c ≡ Some x → (1 ≤ x .shares) × (x .shares ≤ 1_000_000) × (x .class ≤ 9)
-noted-ranges xs r zero x e = absurd (none-some refl e)
-noted-ranges xs r (suc i) x e =
-    let q : in-ranges (Some x) ≡ true = subst (λ (o : Option Member). in-ranges o ≡ true) e (r i) in grind (arith, tells, q)
+noted-ranges xs r c x e = let q = noted-true xs r c x e in grind (arith, tells, q)
 
 -- the shares of a client are among all shares
 pub shares-among : (xs : List (Option Member)) (s : ℕ → List ℕ) (c : ℕ) (x : Member) → Numbered c → by-number xs c ≡ Some x →

@@ -6,6 +6,7 @@
 -- History    events that lead from a new broker to this one, the latest first
 -- Guaranteed   whatever is called on a new broker, its history keeps the three guarantees
 -- done       the answer to a call that answers nothing more where it is accepted
+-- handed, counted   the answer to a call that answers a frame, or a count
 -- delivery   the answer to a delivery
 -- HandsBack  a refused delivery hands this slip back
 -- Stepped    a call on a broker under a price is a step of the rules, and leaves the price
@@ -20,7 +21,7 @@ use Rattle.std.specs.declared.result.Result.the-variants.{Ok, Err}
 use Rattle.rules.specs.Offers.{Meaning}
 use Rattle.rules.specs.declared.refusal.Refusal.{Refusal}
 use Rattle.laws.specs.Broker as rules
-use Rattle.laws.specs.Calls.{Call, Answer, Done, Refused, Step}
+use Rattle.laws.specs.Calls.{Call, Answer, Done, Frame, Count, Refused, Step}
 use Rattle.laws.specs.Histories.{Event, event, Run}
 use Rattle.laws.specs.Guarantees.{Guarantees}
 use Rattle.laws.proofs.Table.{by-number}
@@ -57,6 +58,16 @@ Guaranteed m = (h : List Event) (b : rules.Broker) → History m h b → Guarant
 abbrev pub done : Result (Unit {0}) Refusal → Answer
 done (Ok _) = Done
 done (Err r) = Refused r
+
+-- A hand-back answers the frame.
+abbrev pub handed : Result ℕ Refusal → Answer
+handed (Ok f) = Frame f
+handed (Err r) = Refused r
+
+-- A leave answers how many frames came free.
+abbrev pub counted : Result ℕ Refusal → Answer
+counted (Ok n) = Count n
+counted (Err r) = Refused r
 
 -- A delivery that is refused hands the slip back, as it was.
 abbrev pub delivery : Result (Unit {0}) Undelivered → Answer

@@ -7,6 +7,7 @@ use ledger::Ledger;
 use rules::SlipNumbers;
 
 mod calls;
+mod changes;
 mod questions;
 
 /// A broker under a price, in fixed memory. Client c stands in place c - 1 of the table, and its frames in stack c of the

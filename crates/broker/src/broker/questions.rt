@@ -21,7 +21,7 @@ use rules::Refusal;
 
 impl<P> Broker<P> {
     // What is noted of a client, which has to be admitted.
-    fn member(&self, client: u32) -> Result<Member, Refusal>
+    pub(crate) fn member(&self, client: u32) -> Result<Member, Refusal>
         ensures { λ r. ⌜ Replies (client-entries (view (now (self .entry))) client) (λ x. by-number (now (self .entry) .members) client ≡ Some x) r ⌝ }
     {
         if client < 1 || client > 256 {
