@@ -12,7 +12,7 @@ use Rattle.rules.specs.declared.call.Estimate.{Estimate}
 use Rattle.rules.specs.Offers.{Meaning}
 use Rattle.rules.specs.Refusals.{Entry, entry, First}
 use Rattle.rules.specs.declared.refusal.Refusal.{Refusal}
-use Rattle.rules.specs.declared.refusal.Refusal.the-variants.{HoldsNoFrame, ActiveAboveFrames, EndNotAfterClock}
+use Rattle.rules.specs.declared.refusal.Refusal.the-variants.{HoldsNoFrame}
 use Rattle.laws.specs.ByNumber.{put}
 use Rattle.laws.specs.Broker as rules
 use Rattle.laws.specs.Broker.{SlipNumbers}
@@ -98,16 +98,16 @@ leave-step m u t n p xs l k c r x long e v same clear =
     subst (λ (q : ℕ). Step m b (Leave c) (Count q) (seen u t n p (set xs (c - 1) None) k)) (sym (v .counted)) whole
 
 pub estimate-step : (m : Meaning) (u t n : ℕ) (p : Option SlipNumbers) (xs : List (Option Member)) (l : Ledger) (c active end : ℕ) (x : Member) → length xs ≡ 256 → by-number xs c ≡ Some x →
-    active ≤ l .frames → t < end → IsClear m (seen u t n p xs l) (Leave c) →
+    IsClear m (seen u t n p xs l) (SetEstimate c active end) →
     Step m (seen u t n p xs l) (SetEstimate c active end) Done (seen u t n p (set xs (c - 1) (Some (record { shares = x .shares; class = x .class; minimum = x .minimum; maximum = x .maximum; estimate = Some (record { active = active; end = end }) }))) l)
-estimate-step m u t n p xs l c active end x long e few later clear =
+estimate-step m u t n p xs l c active end x long e clear =
     let b = seen u t n p xs l in
     let in-table = inside 1 256 c (clear .0) in
     let i : c ≡ suc (c - 1) = omega (arith, in-table) in
     let it : b .clients c ≡ Some (client-with x (stack-of l c)) = ap (λ (o : Option Member). client-of o (stack-of l c)) e in
     let after = set-clients xs (stack-of l) c (c - 1) (Some (record { shares = x .shares; class = x .class; minimum = x .minimum; maximum = x .maximum; estimate = Some (record { active = active; end = end }) })) i (omega (arith, in-table, long)) in
     subst (λ (d : rules.Broker). Step m b (SetEstimate c active end) Done d) (sym (same-parts u (l .frames) t n p refl refl after))
-    (estimated {x = client-with x (stack-of l c)} (clear .0, (clear .1 .0, (clear .1 .1 .0, ((λ h. omega (arith, h, few)), ((λ h. omega (arith, h, later)), tt))))) it)
+    (estimated {x = client-with x (stack-of l c)} clear it)
 
 -- what every call of an admitted client is refused for is refused for in each of them
 first-more : (es fs : List Entry) (r : Refusal) → First es r → First (es ++ fs) r
@@ -117,9 +117,6 @@ first-more (e ∷ es) fs r (inr h) = inr (h .0, first-more es fs r (h .1))
 
 pub refused-hand-back : (m : Meaning) (b : rules.Broker) (c : ℕ) (r : Refusal) → RefusedBy m b (Leave c) r → RefusedBy m b (HandBack c) r
 refused-hand-back m b c r h = first-more (entries m b (Leave c)) (entry HoldsNoFrame (rules.holding b c ≡ 0) ∷ []) r h
-
-pub refused-estimate : (m : Meaning) (b : rules.Broker) (c active end : ℕ) (r : Refusal) → RefusedBy m b (Leave c) r → RefusedBy m b (SetEstimate c active end) r
-refused-estimate m b c active end r h = first-more (entries m b (Leave c)) (entry ActiveAboveFrames (b .frames < active) ∷ entry EndNotAfterClock (end ≤ b .tick) ∷ []) r h
 
 -- a client with an empty stack holds no frame
 pub refused-empty : (m : Meaning) (u t n : ℕ) (p : Option SlipNumbers) (xs : List (Option Member)) (l : Ledger) (c : ℕ) (x : Member) → by-number xs c ≡ Some x → stack-of l c ≡ [] →

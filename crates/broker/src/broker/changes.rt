@@ -48,11 +48,9 @@ impl<P: Price> Broker<P> {
         Ok(frames as u32)
     }
 
-    /// Notes how many frames a client says it uses, and the tick at which that ends, in place of an earlier estimate. A
-    /// client number outside 1 to 256 is refused, then any client while a passage is open, one that is not admitted, an
-    /// active count above the frames, and an end at or before the clock.
-    pub fn estimate(&mut self, client: u32, active: u32, end: u32) -> Result<(), Refusal>
-        ensures { λ r. ⌜ Stepped (P·Price .meaning) (now (self .entry)) (SetEstimate client active end) (done r) (now (self .exit)) ⌝ }
+    // What is noted of a client whose estimate may be set.
+    fn estimable(&self, client: u32, active: u32, end: u32) -> Result<Member, Refusal>
+        ensures { λ r. ⌜ Replies (entries (P·Price .meaning (now (self .entry) .price)) (view (now (self .entry))) (SetEstimate client active end)) (λ x. by-number (now (self .entry) .members) client ≡ Some x) r ⌝ }
     {
         let member = self.caller(client)?;
         if active > self.ledger.frames() as u32 {
@@ -61,6 +59,16 @@ impl<P: Price> Broker<P> {
         if end <= self.tick {
             return Err(Refusal::EndNotAfterClock);
         }
+        Ok(member)
+    }
+
+    /// Notes how many frames a client says it uses, and the tick at which that ends, in place of an earlier estimate. A
+    /// client number outside 1 to 256 is refused, then any client while a passage is open, one that is not admitted, an
+    /// active count above the frames, and an end at or before the clock.
+    pub fn estimate(&mut self, client: u32, active: u32, end: u32) -> Result<(), Refusal>
+        ensures { λ r. ⌜ Stepped (P·Price .meaning) (now (self .entry)) (SetEstimate client active end) (done r) (now (self .exit)) ⌝ }
+    {
+        let member = self.estimable(client, active, end)?;
         self.members[client as usize - 1] = Some(Member {
             estimate: Some(Estimate { active, end }),
             ..member

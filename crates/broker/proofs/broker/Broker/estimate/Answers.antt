@@ -1,38 +1,19 @@
 use mathlib.Core.Path.{_≡_, refl, _∙_}
-use mathlib.Core.Bool.{true}
-use mathlib.Core.Logic.{inl, inr}
-use Prim.Native.Nat.{_-_, _<_, _≤_}
+use Prim.Native.Nat.{_-_, _<_}
 use native.Mathlib.Omega.{arith}
 use lib.ListN.{length, length-set}
 use Rattle.std.proofs.shelf.Results.{err-from-errBy}
 use Rattle.laws.specs.Calls.{refused}
 use Rattle.laws.proofs.Kept.{inside}
-use Rattle.broker.specs.View.{view}
 use Rattle.broker.proofs.Views.{stepped}
 use Rattle.broker.proofs.Tables.{set-ranges, set-stray, noted-true}
-use Rattle.broker.proofs.Changes.{refused-estimate, estimate-step}
+use Rattle.broker.proofs.Changes.{estimate-step}
 use Rattle.broker.proofs.broker.Broker.estimate.Needs as need
 
 pub returns-in-Break-member : need.returns-in-Break-member
 returns-in-Break-member g c =
-    let b = c .args .self .now in
     let p = err-from-errBy (c .from-residual .result) (c .from-residual .ensures .1) in
-    rw (p .1, p .2) (stepped (g .P·Price .meaning) (g .P·Price .lawful) b b (refused (refused-estimate (g .P·Price .meaning (b .price)) (view b) (c .args .client) (c .args .active) (c .args .end) _ (c .in-Break-member .ensures tt))) refl)
-
-pub returns-then-active-frames : need.returns-then-active-frames
-returns-then-active-frames g c =
-    let b = c .args .self .now in
-    let clear = c .in-Continue-member .ensures tt .0 in
-    let many : b .ledger .frames < c .args .active = omega (arith, c .frames .ensures) in
-    stepped (g .P·Price .meaning) (g .P·Price .lawful) b b (refused (inr (clear .0, inr (clear .1 .0, inr (clear .1 .1 .0, inl (many, refl)))))) refl
-
-pub returns-then-end-self : need.returns-then-end-self
-returns-then-end-self g c =
-    let b = c .args .self .now in
-    let clear = c .in-Continue-member .ensures tt .0 in
-    let few : c .args .active ≤ b .ledger .frames = omega (arith, c .frames .ensures) in
-    let soon : c .args .end ≤ b .tick = omega arith in
-    stepped (g .P·Price .meaning) (g .P·Price .lawful) b b (refused (inr (clear .0, inr (clear .1 .0, inr (clear .1 .1 .0, inr ((λ h. omega (arith, h, few)), inl (soon, refl))))))) refl
+    rw (p .1, p .2) (stepped (g .P·Price .meaning) (g .P·Price .lawful) (c .args .self .now) (c .args .self .now) (refused (c .in-Break-member .ensures tt)) refl)
 
 pub ghost-self : need.ghost-self
 ghost-self g c =
@@ -51,6 +32,4 @@ pub returns : need.returns
 returns g c =
     let b = c .args .self .now in
     let found = c .in-Continue-member .ensures tt in
-    let few : c .args .active ≤ b .ledger .frames = omega (arith, c .frames .ensures) in
-    let later : b .tick < c .args .end = omega arith in
-    stepped (g .P·Price .meaning) (g .P·Price .lawful) b _ (estimate-step (g .P·Price .meaning (b .price)) (b .unit) (b .tick) (b .asks) (b .passage) (b .members) (b .ledger) (c .args .client) (c .args .active) (c .args .end) (c .in-Continue-member .member) (b .places) (found .1) few later (found .0)) refl
+    stepped (g .P·Price .meaning) (g .P·Price .lawful) b _ (estimate-step (g .P·Price .meaning (b .price)) (b .unit) (b .tick) (b .asks) (b .passage) (b .members) (b .ledger) (c .args .client) (c .args .active) (c .args .end) (c .in-Continue-member .member) (b .places) (found .1) (found .0)) refl
