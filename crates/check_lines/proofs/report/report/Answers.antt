@@ -17,4 +17,4 @@ loop-line-preserved g c =
     (λ line seen v so_far. (bad so_far c.in-Err.refusal v, omega (arith, c.loop-line.invariant.fewer)))
 
 pub returns : goal.returns
-returns g c = done _ _ _ _ c.loop-line.invariant c.in-default.ensures.steps
+returns g c = done _ _ _ _ c.loop-line.invariant c.in_default.ensures.steps

@@ -12,5 +12,5 @@ loop-n-preserved c = number_spelled _ _ _ _ _ _ c.loop-n-test.true c.loop-n.inva
 pub returns : goal.returns
 returns c = record {
   line = c.loop-n.invariant ∙ ap (λ xs. cut (c.args.letter ∷ flat_map spaced xs)) (take_all _ _ c.loop-n-test.false);
-  sized = all_sized _ (λ i. omega (arith, c.type-inv.numbers i));
+  sized = all_sized _ (λ i. omega (arith, c.type_inv.numbers i));
 }

@@ -15,12 +15,12 @@ returns-then-place-count g c =
     let xs = c.args.records.now in
     let n = c.args.count in
     let o = c.args.owner in
-    let e : c.owner-at.result ≡ owner_at xs (place_of xs o) = c.owner-at.ensures ∙ ap (owner_at xs) c.place-of-place.ensures in
-    elim (cases_eq c.owner-at.result o) [
-      | inl p ↦ eq-eqb _ _ p ∙ sym (is_some xs n o (heap_placed g.K.Order.leads xs n c.requires) (record { low = let t = c.place-of-place.ensures in omega arith; back = sym e ∙ p }))
+    let e : c.owner_at.result ≡ owner_at xs (place_of xs o) = c.owner_at.ensures ∙ ap (owner_at xs) c.place_of-place.ensures in
+    elim (cases_eq c.owner_at.result o) [
+      | inl p ↦ eq-eqb _ _ p ∙ sym (is_some xs n o (heap_placed g.K.Order.leads xs n c.requires) (record { low = let t = c.place_of-place.ensures in omega arith; back = sym e ∙ p }))
       | inr d ↦ ne_eqb _ _ d ∙ sym (ap option_is_some (keys_out xs n o (λ s. d (e ∙ s.back))))
     ]
 
 pub returns-else-place-count : goal.returns-else-place-count
 returns-else-place-count g c =
-    le-ltb _ _ c.if-place-count.false ∙ sym (ap option_is_some (keys_out c.args.records.now c.args.count c.args.owner (λ s. (let t = c.place-of-place.ensures in let l = s.low in omega arith))))
+    le-ltb _ _ c.if-place-count.false ∙ sym (ap option_is_some (keys_out c.args.records.now c.args.count c.args.owner (λ s. (let t = c.place_of-place.ensures in let l = s.low in omega arith))))

@@ -3,8 +3,8 @@ use Rattle.heap.proofs.Writes.{key_read}
 use Rattle.heap.proofs.Members.{some_in, keys_in, some_within}
 use Rattle.heap.proofs.reads.key_of.Goals as goal
 
-pub offset-bounds-records-owner : goal.offset-bounds-records-owner
-offset-bounds-records-owner g c = omega (arith, some_within c.args.records.now c.args.count c.args.owner c.requires)
+pub offset_bounds-records-owner : goal.offset_bounds-records-owner
+offset_bounds-records-owner g c = omega (arith, some_within c.args.records.now c.args.count c.args.owner c.requires)
 
 pub bounds-records-owner : goal.bounds-records-owner
 bounds-records-owner g c = some_within c.args.records.now c.args.count c.args.owner c.requires

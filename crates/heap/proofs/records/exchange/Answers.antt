@@ -3,4 +3,4 @@ use Rattle.heap.proofs.records.exchange.Goals as goal
 
 pub returns : goal.returns
 returns g c =
-    exchanged c.args.records.now c.seat.new.records c.seat-2.new.records c.args.i c.args.j c.owner-at-a.result c.owner-at-b.result c.requires.4 c.owner-at-a.ensures c.owner-at-b.ensures c.seat.ensures c.seat-2.ensures
+    exchanged c.args.records.now c.seat.new.records c.seat-2.new.records c.args.i c.args.j c.owner_at-a.result c.owner_at-b.result c.requires.4 c.owner_at-a.ensures c.owner_at-b.ensures c.seat.ensures c.seat-2.ensures

@@ -3,15 +3,15 @@ use Rattle.heap.specs.Heaps.{key_of}
 use Rattle.heap.proofs.Writes.{key_read}
 use Rattle.heap.proofs.records.key_at.Goals as goal
 
-pub offset-bounds-records-owner : goal.offset-bounds-records-owner
-offset-bounds-records-owner g c = omega (arith, c.requires.0.1 c.args.i c.requires.1, c.owner-at-owner.ensures)
+pub offset_bounds-records-owner : goal.offset_bounds-records-owner
+offset_bounds-records-owner g c = omega (arith, c.requires.0.1 c.args.i c.requires.1, c.owner_at-owner.ensures)
 
 pub bounds-records-owner : goal.bounds-records-owner
-bounds-records-owner g c = omega (arith, c.requires.0.1 c.args.i c.requires.1, c.owner-at-owner.ensures)
+bounds-records-owner g c = omega (arith, c.requires.0.1 c.args.i c.requires.1, c.owner_at-owner.ensures)
 
 pub returns : goal.returns
 returns g c =
     let xs = c.args.records.now in
-    let o = c.owner-at-owner.result in
-    let h : o < length xs = omega (arith, c.requires.0.1 c.args.i c.requires.1, c.owner-at-owner.ensures) in
-    ap (key_of xs) (sym c.owner-at-owner.ensures) ∙ key_read xs o c.index-records-owner.result h
+    let o = c.owner_at-owner.result in
+    let h : o < length xs = omega (arith, c.requires.0.1 c.args.i c.requires.1, c.owner_at-owner.ensures) in
+    ap (key_of xs) (sym c.owner_at-owner.ensures) ∙ key_read xs o c.index-records-owner.result h

@@ -6,11 +6,11 @@ use Rattle.heap.proofs.Exchanges.{exchanged_placed, exchanged_keys, exchanged_sw
 use Rattle.heap.proofs.Parts.{placed_ordered}
 use Rattle.heap.proofs.sifts.sift_down.Goals as goal
 
-pub returns-then-leads-at : goal.returns-then-leads-at
-returns-then-leads-at g c =
+pub returns-then-leads_at : goal.returns-then-leads_at
+returns-then-leads_at g c =
     let l = c.loop-at in
     record {
-      heap = placed_ordered g.K.Order.leads l.records c.args.count l.invariant.0 (sunk (none_first_lawful (lawful g.met.K.Order.total g.met.K.Order.chain)) (key_at l.records) l.at c.first-below-below.result c.args.count l.invariant.2 c.first-below-below.ensures c.if-leads-at.ensures);
+      heap = placed_ordered g.K.Order.leads l.records c.args.count l.invariant.0 (sunk (none_first_lawful (lawful g.met.K.Order.total g.met.K.Order.chain)) (key_at l.records) l.at c.first_below-below.result c.args.count l.invariant.2 c.first_below-below.ensures c.if-leads_at.ensures);
       map = l.invariant.3;
     }
 
@@ -29,11 +29,11 @@ loop-at-preserved g c =
     let ys = c.exchange.new.records in
     let n = c.args.count in
     let j = l.at in
-    let first = c.first-below-below.ensures in
-    let k = c.first-below-below.result in
+    let first = c.first_below-below.ensures in
+    let k = c.first_below-below.result in
     let apart : j < k = let u = first.below.under in let z = first.below.deep in omega arith in (
       exchanged_placed xs ys j k n l.invariant.1 first.below.within (λ z. omega arith) l.invariant.0 c.exchange.ensures,
       first.below.within,
-      sink (none_first_lawful (lawful g.met.K.Order.total g.met.K.Order.chain)) (key_at xs) (key_at ys) j k n first c.if-leads-at.ensures (exchanged_swaps xs ys j k c.exchange.ensures) l.invariant.2,
+      sink (none_first_lawful (lawful g.met.K.Order.total g.met.K.Order.chain)) (key_at xs) (key_at ys) j k n first c.if-leads_at.ensures (exchanged_swaps xs ys j k c.exchange.ensures) l.invariant.2,
       λ o. exchanged_keys xs ys j k n l.invariant.1 first.below.within (λ z. omega arith) l.invariant.0 c.exchange.ensures o ∙ l.invariant.3 o,
     )

@@ -6,12 +6,12 @@ use Rattle.heap.proofs.Exchanges.{exchanged_placed, exchanged_keys, exchanged_sw
 use Rattle.heap.proofs.Parts.{placed_ordered}
 use Rattle.heap.proofs.sifts.sift_up.Goals as goal
 
-pub returns-then-leads-at : goal.returns-then-leads-at
-returns-then-leads-at g c =
+pub returns-then-leads_at : goal.returns-then-leads_at
+returns-then-leads_at g c =
     let l = c.loop-at in
     let f = key_at l.records in
     record {
-      heap = placed_ordered g.K.Order.leads l.records c.args.count l.invariant.0 (risen (none_first_lawful (lawful g.met.K.Order.total g.met.K.Order.chain)) f l.at c.args.count l.invariant.2 c.if-leads-at.ensures);
+      heap = placed_ordered g.K.Order.leads l.records c.args.count l.invariant.0 (risen (none_first_lawful (lawful g.met.K.Order.total g.met.K.Order.chain)) f l.at c.args.count l.invariant.2 c.if-leads_at.ensures);
       map = l.invariant.3;
     }
 
@@ -33,6 +33,6 @@ loop-at-preserved g c =
     let p = above j in (
       exchanged_placed xs ys p j n (omega arith) l.invariant.1 (λ z. omega arith) l.invariant.0 c.exchange.ensures,
       omega arith,
-      rise (none_first_lawful (lawful g.met.K.Order.total g.met.K.Order.chain)) (key_at xs) (key_at ys) j n (omega arith) l.invariant.1 c.if-leads-at.ensures (exchanged_swaps xs ys p j c.exchange.ensures) l.invariant.2,
+      rise (none_first_lawful (lawful g.met.K.Order.total g.met.K.Order.chain)) (key_at xs) (key_at ys) j n (omega arith) l.invariant.1 c.if-leads_at.ensures (exchanged_swaps xs ys p j c.exchange.ensures) l.invariant.2,
       λ o. exchanged_keys xs ys p j n (omega arith) l.invariant.1 (λ z. omega arith) l.invariant.0 c.exchange.ensures o ∙ l.invariant.3 o,
     )

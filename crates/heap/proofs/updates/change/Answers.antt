@@ -10,8 +10,8 @@ use Rattle.heap.proofs.updates.change.Goals as goal
 pub rekey-requires : goal.rekey-requires
 rekey-requires g c = some_within c.args.records.now c.args.count c.args.owner c.requires.1
 
-pub place-of-place-requires : goal.place-of-place-requires
-place-of-place-requires g c =
+pub place_of-place-requires : goal.place_of-place-requires
+place_of-place-requires g c =
     let l = c.rekey.ensures.long in omega (arith, some_within c.args.records.now c.args.count c.args.owner c.requires.1)
 
 pub settle-requires : goal.settle-requires
@@ -20,10 +20,10 @@ settle-requires g c =
     let ys = c.rekey.new.records in
     let n = c.args.count in
     let o = c.args.owner in
-    let i = c.place-of-place.result in
+    let i = c.place_of-place.result in
     let s = some_in xs n o c.requires.1 in
     let x = heap_placed g.K.Order.leads xs n c.requires.0 in
-    let p : i ≡ place_of xs o = c.place-of-place.ensures ∙ c.rekey.ensures.places o in
+    let p : i ≡ place_of xs o = c.place_of-place.ensures ∙ c.rekey.ensures.places o in
     let l : i < n = let z = s.low in omega arith in (
       rekeyed_placed xs ys n o c.args.key c.rekey.ensures x,
       l,

@@ -18,8 +18,8 @@ seat-requires g c =
     let l = c.rekey.ensures.long in
     (omega arith, omega arith)
 
-pub sift-up-requires : goal.sift-up-requires
-sift-up-requires g c =
+pub sift_up-requires : goal.sift_up-requires
+sift_up-requires g c =
     let xs = c.args.records.now in
     let ys = c.rekey.new.records in
     let zs = c.seat.new.records in
@@ -43,8 +43,8 @@ returns g c =
     let out = none_out xs n o x (ap is_some c.requires.2) in
     let free = room xs n o x c.requires.1 out in
     record {
-      heap = c.sift-up.ensures.heap;
-      map = λ q. c.sift-up.ensures.map q ∙ added_keys xs c.rekey.new.records n o c.args.key c.rekey.ensures c.seat.new.records c.seat.ensures x free c.requires.1 out q;
+      heap = c.sift_up.ensures.heap;
+      map = λ q. c.sift_up.ensures.map q ∙ added_keys xs c.rekey.new.records n o c.args.key c.rekey.ensures c.seat.new.records c.seat.ensures x free c.requires.1 out q;
       count = let z = ap present c.requires.2 in omega arith;
-      long = c.sift-up.auto.records ∙ (c.seat.ensures.long ∙ c.rekey.ensures.long);
+      long = c.sift_up.auto.records ∙ (c.seat.ensures.long ∙ c.rekey.ensures.long);
     }

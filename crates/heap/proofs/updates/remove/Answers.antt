@@ -8,18 +8,18 @@ use Rattle.heap.proofs.Changes.{cut_keys, change_over}
 use Rattle.heap.proofs.Parts.{heap_placed, heap_less}
 use Rattle.heap.proofs.updates.remove.Goals as goal
 
-pub place-of-place-requires : goal.place-of-place-requires
-place-of-place-requires g c = some_within c.args.records.now c.args.count c.args.owner c.requires.1
+pub place_of-place-requires : goal.place_of-place-requires
+place_of-place-requires g c = some_within c.args.records.now c.args.count c.args.owner c.requires.1
 
-pub overflow-sub-last : goal.overflow-sub-last
-overflow-sub-last g c = let l = (some_in c.args.records.now c.args.count c.args.owner c.requires.1).low in omega arith
+pub overflow_sub-last : goal.overflow_sub-last
+overflow_sub-last g c = let l = (some_in c.args.records.now c.args.count c.args.owner c.requires.1).low in omega arith
 
 pub settle-requires : goal.settle-requires
 settle-requires g c =
     let xs = c.args.records.now in
     let ys = c.exchange.new.records in
     let n = c.args.count in
-    let p = c.place-of-place.result in (
+    let p = c.place_of-place.result in (
       placed_less ys (n - 1) n (omega arith) (exchanged_placed xs ys p (n - 1) n (omega arith) (omega arith) (λ e. omega arith) (heap_placed g.K.Order.leads xs n c.requires.0) c.exchange.ensures),
       c.if-place-last.true,
       gap (none_first_lawful (lawful g.met.K.Order.total g.met.K.Order.chain)) (key_at xs) (key_at ys) p n (n - 1) (omega arith) (omega arith) c.requires.0.3 (λ i h d. (exchanged_swaps xs ys p (n - 1) c.exchange.ensures).2 i d (λ e. omega arith)),
@@ -32,9 +32,9 @@ returns-then-place-last g c =
     let zs = c.settle.new.records in
     let n = c.args.count in
     let o = c.args.owner in
-    let p = c.place-of-place.result in
+    let p = c.place_of-place.result in
     let y : Placed ys n = exchanged_placed xs ys p (n - 1) n (omega arith) (omega arith) (λ e. omega arith) (heap_placed g.K.Order.leads xs n c.requires.0) c.exchange.ensures in
-    let e : owner_at ys (n - 1) ≡ o = c.exchange.ensures.right ∙ (ap (owner_at xs) c.place-of-place.ensures ∙ (some_in xs n o c.requires.1).back) in
+    let e : owner_at ys (n - 1) ≡ o = c.exchange.ensures.right ∙ (ap (owner_at xs) c.place_of-place.ensures ∙ (some_in xs n o c.requires.1).back) in
     record {
       heap = c.settle.ensures.heap;
       map = change_over (keys xs n) (keys ys n) (keys zs (n - 1)) o _ (λ q. c.settle.ensures.map q ∙ cut_keys ys (n - 1) n o (omega arith) y e q) (exchanged_keys xs ys p (n - 1) n (omega arith) (omega arith) (λ e. omega arith) (heap_placed g.K.Order.leads xs n c.requires.0) c.exchange.ensures);
@@ -49,7 +49,7 @@ returns-else-place-last g c =
     let o = c.args.owner in
     let s = some_in xs n o c.requires.1 in
     let one : 1 ≤ n = let a = s.low in omega arith in
-    let z : n - 1 ≡ place_of xs o = let a = s.low in let b = c.place-of-place.ensures in let d = c.if-place-last.false in omega arith in
+    let z : n - 1 ≡ place_of xs o = let a = s.low in let b = c.place_of-place.ensures in let d = c.if-place-last.false in omega arith in
     record {
       heap = heap_less g.K.Order.leads xs (n - 1) n (omega arith) c.requires.0;
       map = cut_keys xs (n - 1) n o (omega arith) (heap_placed g.K.Order.leads xs n c.requires.0) (ap (owner_at xs) z ∙ s.back);

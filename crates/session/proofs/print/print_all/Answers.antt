@@ -9,4 +9,4 @@ pub loop-value-preserved : goal.loop-value-preserved
 loop-value-preserved g c = λ vs gives. c.loop-value.invariant (c.in-Some.value ∷ vs) (some c.in-Some.ensures gives)
 
 pub returns : goal.returns
-returns g c = c.loop-value.invariant [] (none c.in-default.ensures)
+returns g c = c.loop-value.invariant [] (none c.in_default.ensures)

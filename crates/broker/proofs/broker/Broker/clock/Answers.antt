@@ -5,14 +5,14 @@ use Rattle.broker.proofs.Steps.{stepped}
 use Rattle.broker.proofs.Clock.{clock_stepped}
 use Rattle.broker.proofs.broker.Broker.clock.Goals as goal
 
-pub returns-in-err-clockable : goal.returns-in-err-clockable
-returns-in-err-clockable g c =
+pub returns-in_err-clockable : goal.returns-in_err-clockable
+returns-in_err-clockable g c =
     let b = c.args.self.now in
-    let p = err_from_is_err_and c.from-residual.result c.from-residual.ensures.1 in
-    rw (p.1, p.2) (stepped g.P.Price.meaning g.P.Price.lawful b b (λ _. refused c.in-err-clockable.ensures) (λ k. k) refl)
+    let p = err_from_is_err_and c.from_residual.result c.from_residual.ensures.1 in
+    rw (p.1, p.2) (stepped g.P.Price.meaning g.P.Price.lawful b b (λ _. refused c.in_err-clockable.ensures) (λ k. k) refl)
 
 pub returns : goal.returns
 returns g c =
     let b = c.args.self.now in
     let (all, none) = c.end-estimates-ended.ensures in
-    clock_stepped g.P.Price.meaning g.P.Price.lawful c.args.tick b c.end-estimates-ended.result c.end-estimates-ended.new.self c.set-tick.new.self (λ _. c.in-ok-clockable.ensures.0) all none c.set-tick.ensures
+    clock_stepped g.P.Price.meaning g.P.Price.lawful c.args.tick b c.end-estimates-ended.result c.end-estimates-ended.new.self c.set-tick.new.self (λ _. c.in_ok-clockable.ensures.0) all none c.set-tick.ensures

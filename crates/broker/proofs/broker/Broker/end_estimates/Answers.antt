@@ -17,7 +17,7 @@ loop-client-preserved g c =
 
 pub returns : goal.returns
 returns g c =
-    let (same, none) = c.in-default.ensures in (
+    let (same, none) = c.in_default.ensures in (
       dropping_none g.P.Price.meaning c.args.tick c.args.self.now c.loop-client.ended c.loop-client.self c.loop-client.invariant c.drop-ended.new.self same,
       subst (λ (v : Broker). (d : ℕ) → ends c.args.tick (v.clients d) ≡ 0) (sym same) none,
     )

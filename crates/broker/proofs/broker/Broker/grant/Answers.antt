@@ -11,19 +11,19 @@ use Rattle.broker.proofs.Others.{ask_others}
 use Rattle.broker.proofs.Steps.{stepped, relisted_both}
 use Rattle.broker.proofs.broker.Broker.grant.Goals as goal
 
-pub returns-in-err-from : goal.returns-in-err-from
-returns-in-err-from g c =
+pub returns-in_err-from : goal.returns-in_err-from
+returns-in_err-from g c =
     let b = c.args.self.now in
-    let p = err_from_is_err_and c.from-residual.result c.from-residual.ensures.1 in
-    rw (p.1, p.2) (record { step = stepped g.P.Price.meaning g.P.Price.lawful b b (λ kept. refused (c.in-err-from.ensures.source kept)) (λ k. k) refl; opens = tt })
+    let p = err_from_is_err_and c.from_residual.result c.from_residual.ensures.1 in
+    rw (p.1, p.2) (record { step = stepped g.P.Price.meaning g.P.Price.lawful b b (λ kept. refused (c.in_err-from.ensures.source kept)) (λ k. k) refl; opens = tt })
 
-pub returns-in-default : goal.returns-in-default
-returns-in-default g c =
+pub returns-in_default : goal.returns-in_default
+returns-in_default g c =
     let b = c.args.self.now in
-    let (same, never) = c.in-default.ensures.grants in
+    let (same, never) = c.in_default.ensures.grants in
     record {
       step = stepped g.P.Price.meaning g.P.Price.lawful b _
-          (λ kept. absurd (let s = c.in-ok-from.ensures.source kept in never (g.P.Price.meaning b.price) s.1.0 s.1.1))
+          (λ kept. absurd (let s = c.in_ok-from.ensures.source kept in never (g.P.Price.meaning b.price) s.1.0 s.1.1))
           (λ k. same_listed (g.P.Price.meaning b.price) (view b) (pool.view c.grant.new.self) (listed b.payers) (λ d. ap (λ (v : rules.Broker). v.clients d) same) k) refl;
       opens = tt;
     }
@@ -37,7 +37,7 @@ returns g c =
     let e = c.relist-2.new.self in
     let q : e.pool ≡ k = c.relist-2.ensures.pool ∙ c.relist.ensures.pool in
     let made : (LooksAtBids (Ask c.args.client) (view b) → Kept g.P.Price.meaning b) → Step m (view b) (Ask c.args.client) (Granted c.in-Some.slip) (pool.view k) =
-    λ kept. let s = c.in-ok-from.ensures.source kept in c.in-Some.ensures.grants m s.0 s.1.0 s.1.1 in
+    λ kept. let s = c.in_ok-from.ensures.source kept in c.in-Some.ensures.grants m s.0 s.1.0 s.1.1 in
     record {
       step = stepped g.P.Price.meaning g.P.Price.lawful b e
           (λ kept. subst (λ (o : Pool). Step m (view b) (Ask c.args.client) (Granted c.in-Some.slip) (pool.view o)) (sym q) (made kept))
@@ -46,6 +46,6 @@ returns g c =
           (c.relist-2.ensures.price ∙ c.relist.ensures.price);
       opens = (
         ap (λ (o : Pool). o.passage) q ∙ c.in-Some.ensures.opens.1,
-        λ kept. subst (λ (p : ℕ). p ≢ c.args.client) (sym c.in-Some.ensures.opens.0) (c.in-ok-from.ensures.source (λ _. kept)).1.1,
+        λ kept. subst (λ (p : ℕ). p ≢ c.args.client) (sym c.in-Some.ensures.opens.0) (c.in_ok-from.ensures.source (λ _. kept)).1.1,
       );
     }

@@ -6,7 +6,7 @@ use Rattle.price.specs.Keys.{KeyOf}
 use Rattle.broker.specs.View.{view}
 use Rattle.broker.proofs.Noted.{noted_holding, noted_least, noted_key, noted_fits, noted_owner, noted_few, refused_not_beyond, anew}
 use Rattle.broker.proofs.broker.Broker.relist.Goals as goal
-use Rattle.broker.proofs.broker.Broker.relist.Goals.{in-Ok+else-is-beyond, in-default}
+use Rattle.broker.proofs.broker.Broker.relist.Goals.{in-Ok+else-is-beyond, in_default}
 
 pub bid-bid-requires : goal.bid-bid-requires
 bid-bid-requires g c =
@@ -36,5 +36,5 @@ returns g c =
           let x = w.in-Ok.member in
           let e = w.in-Ok.ensures.1 in
           λ far. omega (arith, far, noted_holding b.pool n x e, noted_least b.pool n x e, w.height-holding.ensures, ltb-false x.minimum w.height-holding.result (sym w.is-beyond.ensures ∙ w.if-is-beyond.false))
-      | in-default w ↦ refused_not_beyond b.pool n _ c.member.result c.member.ensures w.in-default.not-Ok
+      | in_default w ↦ refused_not_beyond b.pool n _ c.member.result c.member.ensures w.in_default.not-Ok
     ])

@@ -7,39 +7,39 @@ use Rattle.broker.proofs.Asks.{nobody_lower, taken_below, taken_above, outbid_by
 use Rattle.broker.proofs.broker.Broker.source.Goals as goal
 use Rattle.broker.proofs.broker.Broker.source.Goals.{then-not-is-below+else-not-ranks-above, else-not-is-below}
 
-pub returns-in-default : goal.returns-in-default
-returns-in-default g c =
+pub returns-in_default : goal.returns-in_default
+returns-in_default g c =
     let b = c.args.self.now in
-    let clear = c.in-ok-member.ensures.0 in
+    let clear = c.in_ok-member.ensures.0 in
     let free : (view b).free ≡ [] = nil_from_length (stack_of b.pool.ledger 0) (omega (arith, c.free-frames.ensures, c.if-free-frames-gt0.false)) in
-    record { asker = tt; source = λ kept. nobody_lower g.P.Price.meaning b c.args.client clear free c.in-default.ensures (kept (free, clear)) }
+    record { asker = tt; source = λ kept. nobody_lower g.P.Price.meaning b c.args.client clear free c.in_default.ensures (kept (free, clear)) }
 
 pub returns-then-not-ranks-above : goal.returns-then-not-ranks-above
 returns-then-not-ranks-above g c =
     let b = c.args.self.now in
-    let (clear, e) = c.in-ok-member.ensures in
+    let (clear, e) = c.in_ok-member.ensures in
     let free : (view b).free ≡ [] = nil_from_length (stack_of b.pool.ledger 0) (omega (arith, c.free-frames.ensures, c.if-free-frames-gt0.false)) in
     let k = c.in-Some.lowest in
     record {
       asker = tt;
-      source = λ kept. outbid_by_lowest g.P.Price.meaning b c.args.client clear free k.client k.bid c.in-Some.ensures.1 c.in-ok-member.member e
+      source = λ kept. outbid_by_lowest g.P.Price.meaning b c.args.client clear free k.client k.bid c.in-Some.ensures.1 c.in_ok-member.member e
           c.next-bid-bid.result c.next-bid-bid.ensures.keyed (omega (arith, ltb-false c.height-holding.result _ (sym c.if-not-is-below.ensures), c.height-holding.ensures)) (sym c.if-not-ranks-above.ensures.keys) (kept (free, clear));
     }
 
 pub returns : goal.returns
 returns g c =
     let b = c.args.self.now in
-    let (clear, e) = c.in-ok-member.ensures in
+    let (clear, e) = c.in_ok-member.ensures in
     let free : (view b).free ≡ [] = nil_from_length (stack_of b.pool.ledger 0) (omega (arith, c.free-frames.ensures, c.if-free-frames-gt0.false)) in
     let k = c.in-Some.lowest in
     record {
       asker = clear;
       source = λ kept. elim c.if-not-is-below.branch [
         | then-not-is-below+else-not-ranks-above w ↦
-            taken_above g.P.Price.meaning b c.args.client clear free k.client k.bid c.in-Some.ensures.1 c.in-ok-member.member e
+            taken_above g.P.Price.meaning b c.args.client clear free k.client k.bid c.in-Some.ensures.1 c.in_ok-member.member e
             w.next-bid-bid.result w.next-bid-bid.ensures.keyed (g.P.Price.lawful b.price) w.next-bid-bid.ensures.valid (sym w.ranks-above.ensures.keys ∙ w.if-not-ranks-above.false) (kept (free, clear))
         | else-not-is-below w ↦
-            taken_below g.P.Price.meaning b c.args.client clear free k.client k.bid c.in-Some.ensures.1 c.in-ok-member.member e
+            taken_below g.P.Price.meaning b c.args.client clear free k.client k.bid c.in-Some.ensures.1 c.in_ok-member.member e
             (omega (arith, ltb-true c.height-holding.result _ (sym c.is-below.ensures ∙ w.if-not-is-below.false), c.height-holding.ensures)) (kept (free, clear))
       ];
     }

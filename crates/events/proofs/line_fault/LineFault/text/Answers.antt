@@ -18,14 +18,14 @@ returns-in-Malformed c =
       short = subst (λ bs. length bs ≤ 128) pieces (malformed_short _ _ _ c.number.ensures.short c.number-in-Malformed-2.ensures.short c.number-in-Malformed-3.ensures.short);
     }
 
-pub returns-in-default : goal.returns-in-default
-returns-in-default c =
+pub returns-in_default : goal.returns-in_default
+returns-in_default c =
     let head = first_piece (codes "line ") c.new-text.ensures c.bytes.ensures in
     let line = grown _ (decimal c.args.self.now.line) head c.number.ensures.text in
-    let refused = grown _ (codes " refused ") line c.bytes-in-default.ensures in
-    let why = grown _ (decimal c.number-in-default.result) refused c.number-in-default-2.ensures.text in
-    let pieces = refused_pieces c.args.self.now c.number-in-default.result c.in-default.not-Malformed c.number-in-default.ensures in
+    let refused = grown _ (codes " refused ") line c.bytes-in_default.ensures in
+    let why = grown _ (decimal c.number-in_default.result) refused c.number-in_default-2.ensures.text in
+    let pieces = refused_pieces c.args.self.now c.number-in_default.result c.in_default.not-Malformed c.number-in_default.ensures in
     record {
       text = why ∙ ap cut pieces;
-      short = subst (λ bs. length bs ≤ 128) pieces (refused_short _ _ c.number.ensures.short c.number-in-default-2.ensures.short);
+      short = subst (λ bs. length bs ≤ 128) pieces (refused_short _ _ c.number.ensures.short c.number-in_default-2.ensures.short);
     }

@@ -11,14 +11,14 @@ returns-then-len-eq0 c = ⊎_elim (λ none. none_writes _ none) (λ long. long_w
 pub returns-then-len-gt1 : goal.returns-then-len-gt1
 returns-then-len-gt1 c = zero_writes _ c.if-len-gt1.true c.if-digits-eq48.true
 
-pub overflow-mul-n : goal.overflow-mul-n
-overflow-mul-n c = omega (arith, value_small c.args.digits.now c.loop-d.d-index c.requires (omega arith))
+pub overflow_mul-n : goal.overflow_mul-n
+overflow_mul-n c = omega (arith, value_small c.args.digits.now c.loop-d.d-index c.requires (omega arith))
 
-pub overflow-sub-n : goal.overflow-sub-n
-overflow-sub-n c = (digit_at c.args.digits.now c.loop-d.d-index c.requires (omega arith)).0
+pub overflow_sub-n : goal.overflow_sub-n
+overflow_sub-n c = (digit_at c.args.digits.now c.loop-d.d-index c.requires (omega arith)).0
 
-pub overflow-add-n : goal.overflow-add-n
-overflow-add-n c =
+pub overflow_add-n : goal.overflow_add-n
+overflow_add-n c =
     omega (arith, value_small c.args.digits.now c.loop-d.d-index c.requires (omega arith), (digit_at c.args.digits.now c.loop-d.d-index c.requires (omega arith)).1)
 
 pub loop-d-preserved : goal.loop-d-preserved

@@ -9,7 +9,7 @@ shift-requires c =
     let l = c.loop-frame in
     let v = l.self in
     let o = c.args.owner in
-    let high : 0 < length (stacks v o) = let a = l.invariant.2.left in let b = c.height-of-height.ensures in omega arith in
+    let high : 0 < length (stacks v o) = let a = l.invariant.2.left in let b = c.height_of-height.ensures in omega arith in
     (l.invariant.0, high_within v.below v.top v.height 257 o v.heights high, omega arith, c.requires.1, high)
 
 pub loop-frame-preserved : goal.loop-frame-preserved
@@ -24,5 +24,5 @@ returns c =
     record {
       sound = l.invariant.0;
       many = l.invariant.1;
-      freed = all_gone (stacks c.args.self.now) (stacks l.self) c.args.owner l.-frame c.height-of-height.result c.height-of-height.ensures (omega arith) l.invariant.2;
+      freed = all_gone (stacks c.args.self.now) (stacks l.self) c.args.owner l._frame c.height_of-height.result c.height_of-height.ensures (omega arith) l.invariant.2;
     }

@@ -4,4 +4,4 @@ use Rattle.ledger.proofs.Frees.{Going}
 use Rattle.ledger.proofs.links.Links.release.Given as goal
 
 abbrev pub invariant-loop-frame : goal.invariant-loop-frame
-invariant-loop-frame l = Sound l.self × (many l.self ≡ many l.initial.self) × Going (stacks l.initial.self) (stacks l.self) l.owner l.-frame
+invariant-loop-frame l = Sound l.self × (many l.self ≡ many l.initial.self) × Going (stacks l.initial.self) (stacks l.self) l.owner l._frame

@@ -8,11 +8,11 @@ bounds-self-frame c = frame_linked c.args.self.now c.args.from c.args.to c.requi
 pub bounds-self-frame-2 : goal.bounds-self-frame-2
 bounds-self-frame-2 c = frame_linked c.args.self.now c.args.from c.args.to c.requires.0 c.requires.1 c.requires.2 c.requires.3 c.requires.4
 
-pub overflow-sub-self : goal.overflow-sub-self
-overflow-sub-self c = height_taken c.args.self.now c.args.from c.args.to c.requires.0 c.requires.1 c.requires.2 c.requires.3 c.requires.4
+pub overflow_sub-self : goal.overflow_sub-self
+overflow_sub-self c = height_taken c.args.self.now c.args.from c.args.to c.requires.0 c.requires.1 c.requires.2 c.requires.3 c.requires.4
 
-pub overflow-add-self : goal.overflow-add-self
-overflow-add-self c = omega (arith, height_given c.args.self.now c.args.from c.args.to c.requires.0 c.requires.1 c.requires.2 c.requires.3 c.requires.4)
+pub overflow_add-self : goal.overflow_add-self
+overflow_add-self c = omega (arith, height_given c.args.self.now c.args.from c.args.to c.requires.0 c.requires.1 c.requires.2 c.requires.3 c.requires.4)
 
 pub returns : goal.returns
 returns c =

@@ -13,5 +13,5 @@ one_more xs i l h f p u =
 pub loop-frame-preserved : goal.loop-frame-preserved
 loop-frame-preserved c = one_more c.loop-frame.below c.loop-frame.frame (omega arith) c.loop-frame.invariant
 
-pub returns·2 : goal.returns·2
-returns·2 c f p u = one_more c.loop-frame.below c.loop-frame.frame (omega arith) c.loop-frame.invariant f p (omega arith)
+pub returns-2 : goal.returns-2
+returns-2 c f p u = one_more c.loop-frame.below c.loop-frame.frame (omega arith) c.loop-frame.invariant f p (omega arith)

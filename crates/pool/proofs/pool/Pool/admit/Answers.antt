@@ -9,15 +9,15 @@ use Rattle.pool.proofs.Tables.{new_ranges, set_ranges, set_stray, admit_step, no
 use Rattle.pool.proofs.Noted.{set_unestimated}
 use Rattle.pool.proofs.pool.Pool.admit.Goals as goal
 
-pub returns-in-err-admissible : goal.returns-in-err-admissible
-returns-in-err-admissible c =
-    let p = err_from_is_err_and c.from-residual.result c.from-residual.ensures.1 in
-    rw (p.1, p.2) (λ m. (refused c.in-err-admissible.ensures))
+pub returns-in_err-admissible : goal.returns-in_err-admissible
+returns-in_err-admissible c =
+    let p = err_from_is_err_and c.from_residual.result c.from_residual.ensures.1 in
+    rw (p.1, p.2) (λ m. (refused c.in_err-admissible.ensures))
 
 pub invariant-of-self : goal.invariant-of-self
 invariant-of-self c =
     let b = c.args.self.now in
-    let clear = c.in-ok-admissible.ensures.0 in
+    let clear = c.in_ok-admissible.ensures.0 in
     let n = inside 1 256 c.args.client clear.0 in
     let few : c.args.maximum ≤ 4_096 = let h = clear.1.1.1.1.1.1.0 in omega (arith, few_frames b.ledger) in
     let i : c.args.client - 1 < length b.members = omega (arith, b.places, n) in (
@@ -31,4 +31,4 @@ invariant-of-self c =
 pub returns : goal.returns
 returns c =
     let b = c.args.self.now in
-    λ m. (admit_step m b.unit b.tick b.asks b.passage b.members b.ledger c.args.client c.args.shares c.args.class c.args.minimum c.args.maximum b.places b.stray c.in-ok-admissible.ensures.0)
+    λ m. (admit_step m b.unit b.tick b.asks b.passage b.members b.ledger c.args.client c.args.shares c.args.class c.args.minimum c.args.maximum b.places b.stray c.in_ok-admissible.ensures.0)

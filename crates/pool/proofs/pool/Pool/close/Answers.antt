@@ -20,6 +20,6 @@ returns-else-eq c =
     search (rules, arith) in
     λ m. (refused (inl ((λ e. differ (some_same (sym c.in-Some.is ∙ e))), refl)))
 
-pub returns-in-default : goal.returns-in-default
-returns-in-default c =
-    λ m. (refused (inl ((λ e. c.in-default.not-Some c.args.slip e), refl)))
+pub returns-in_default : goal.returns-in_default
+returns-in_default c =
+    λ m. (refused (inl ((λ e. c.in_default.not-Some c.args.slip e), refl)))

@@ -7,10 +7,10 @@ use Rattle.pool.proofs.Views.{seen}
 use Rattle.pool.proofs.Grants.{noted, noted_numbered, grant_step, no_source}
 use Rattle.pool.proofs.pool.Pool.grant.Goals as goal
 
-pub returns-in-default : goal.returns-in-default
-returns-in-default c =
+pub returns-in_default : goal.returns-in_default
+returns-in_default c =
     let b = c.args.self.now in
-    let v = c.in-default.ensures.moved in
+    let v = c.in_default.ensures.moved in
     let x = noted _ (stack_of b.ledger c.args.client) c.requires in
     let n = noted_numbered b.members b.places c.args.client x.0 x.1 in
     record {

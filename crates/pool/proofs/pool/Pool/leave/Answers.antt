@@ -7,29 +7,29 @@ use Rattle.pool.proofs.Changes.{left_stray, leave_step}
 use Rattle.pool.proofs.Noted.{set_noted}
 use Rattle.pool.proofs.pool.Pool.leave.Goals as goal
 
-pub returns-in-err-caller : goal.returns-in-err-caller
-returns-in-err-caller c =
-    let p = err_from_is_err_and c.from-residual.result c.from-residual.ensures.1 in
-    rw (p.1, p.2) (λ m. (refused c.in-err-caller.ensures))
+pub returns-in_err-caller : goal.returns-in_err-caller
+returns-in_err-caller c =
+    let p = err_from_is_err_and c.from_residual.result c.from_residual.ensures.1 in
+    rw (p.1, p.2) (λ m. (refused c.in_err-caller.ensures))
 
 pub invariant-of-self : goal.invariant-of-self
 invariant-of-self c =
     let b = c.args.self.now in
-    let found = c.in-ok-caller.ensures in
+    let found = c.in_ok-caller.ensures in
     let n = inside 1 256 c.args.client found.0.0 in
     let i : c.args.client - 1 < length b.members = omega (arith, b.places, n) in
     let v = c.release-frames.ensures.freed (λ z. omega (arith, n, z)) in (
       length-set b.members (c.args.client - 1) _ ∙ b.places,
       (
         set_ranges b.members (c.args.client - 1) None i refl b.ranges,
-        (left_stray b.members b.ledger c.release-frames.new.self c.args.client c.release-frames.result c.in-ok-caller.field-0 (omega (arith, n)) i found.1 v b.stray, (set_noted b.members b.ends c.take.new.self c.args.client (c.args.client - 1) None (omega (arith, n)) i c.take.ensures (omega arith) refl b.noted, tt)),
+        (left_stray b.members b.ledger c.release-frames.new.self c.args.client c.release-frames.result c.in_ok-caller.field-0 (omega (arith, n)) i found.1 v b.stray, (set_noted b.members b.ends c.take.new.self c.args.client (c.args.client - 1) None (omega (arith, n)) i c.take.ensures (omega arith) refl b.noted, tt)),
       ),
     )
 
 pub returns : goal.returns
 returns c =
     let b = c.args.self.now in
-    let found = c.in-ok-caller.ensures in
+    let found = c.in_ok-caller.ensures in
     let n = inside 1 256 c.args.client found.0.0 in
     let v = c.release-frames.ensures.freed (λ z. omega (arith, n, z)) in
-    λ m. (leave_step m b.unit b.tick b.asks b.passage b.members b.ledger c.release-frames.new.self c.args.client c.release-frames.result c.in-ok-caller.field-0 b.places found.1 v c.release-frames.ensures.frames found.0)
+    λ m. (leave_step m b.unit b.tick b.asks b.passage b.members b.ledger c.release-frames.new.self c.args.client c.release-frames.result c.in_ok-caller.field-0 b.places found.1 v c.release-frames.ensures.frames found.0)

@@ -4,7 +4,7 @@ use Rattle.std.proofs.lemmas.List.Sums.{sum_by_more}
 use Rattle.ledger.specs.Ledgers.{stack_of}
 use Rattle.pool.proofs.Totals.{noted_shares, noted_minimum, all_noted_shares, all_noted_minimums}
 use Rattle.pool.proofs.pool.Pool.totals.Goals as goal
-use Rattle.pool.proofs.pool.Pool.totals.Goals.{in-Some, in-default}
+use Rattle.pool.proofs.pool.Pool.totals.Goals.{in-Some, in_default}
 
 pub loop-place-preserved : goal.loop-place-preserved
 loop-place-preserved c =
@@ -17,9 +17,9 @@ loop-place-preserved c =
           let e = ap noted_shares w.in-Some.is in
           let f = ap noted_minimum w.in-Some.is in
           (omega (arith, shares, e, w.shares-is), omega (arith, minimums, f, w.minimums-is), omega (arith, w.shares-is), omega (arith, w.minimums-is))
-      | in-default w ↦
-          let e = ap noted_shares w.in-default.is in
-          let f = ap noted_minimum w.in-default.is in
+      | in_default w ↦
+          let e = ap noted_shares w.in_default.is in
+          let f = ap noted_minimum w.in_default.is in
           (omega (arith, shares, e, w.shares-is), omega (arith, minimums, f, w.minimums-is), omega (arith, w.shares-is), omega (arith, w.minimums-is))
     ]
 

@@ -2,15 +2,15 @@ use Rattle.broker.specs.View.{view}
 use Rattle.session.proofs.Runs.{unheld, unpriced, held_told}
 use Rattle.session.proofs.session.Session.held.Goals as goal
 
-pub returns-in-default : goal.returns-in-default
-returns-in-default g c =
+pub returns-in_default : goal.returns-in_default
+returns-in_default g c =
     let b = c.args.self.now.broker in
-    unheld (g.P.Price.meaning b.price) b.pool c.args.client _ c.holding.result c.holding.ensures c.in-default.not-Ok
+    unheld (g.P.Price.meaning b.price) b.pool c.args.client _ c.holding.result c.holding.ensures c.in_default.not-Ok
 
-pub returns-in-default-price-at : goal.returns-in-default-price-at
-returns-in-default-price-at g c =
+pub returns-in_default-price-at : goal.returns-in_default-price-at
+returns-in_default-price-at g c =
     let b = c.args.self.now.broker in
-    unpriced g.P.Price.meaning b c.args.client c.in-Ok.frames c.in-Ok.ensures.1 c.price_at.result c.price_at.ensures c.in-default-price-at.not-Ok
+    unpriced g.P.Price.meaning b c.args.client c.in-Ok.frames c.in-Ok.ensures.1 c.price_at.result c.price_at.ensures c.in_default-price-at.not-Ok
 
 pub returns : goal.returns
 returns g c =

@@ -4,13 +4,13 @@ use Rattle.session.proofs.Holding.{few_held}
 use Rattle.session.proofs.Asks.{holding_refused, price_asked}
 use Rattle.session.proofs.session.Session.price.Goals as goal
 
-pub returns-in-err-holding : goal.returns-in-err-holding
-returns-in-err-holding g c =
-    let p = err_from_is_err_and c.from-residual.result c.from-residual.ensures.1 in
-    rw p.1 (λ may. holding_refused c.args.self.now.broker.pool c.args.client _ c.in-err-holding.ensures may.0)
+pub returns-in_err-holding : goal.returns-in_err-holding
+returns-in_err-holding g c =
+    let p = err_from_is_err_and c.from_residual.result c.from_residual.ensures.1 in
+    rw p.1 (λ may. holding_refused c.args.self.now.broker.pool c.args.client _ c.in_err-holding.ensures may.0)
 
 pub overflow-add-holding : goal.overflow-add-holding
-overflow-add-holding g c = omega (arith, few_held c.args.self.now.broker.pool c.args.client, c.in-ok-holding.ensures.1, c.requires)
+overflow-add-holding g c = omega (arith, few_held c.args.self.now.broker.pool c.args.client, c.in_ok-holding.ensures.1, c.requires)
 
 pub returns : goal.returns
-returns g c = price_asked g.P.Price.meaning c.args.self.now.broker c.args.client c.in-ok-holding.holding c.args.more c.in-ok-holding.ensures.1 c.price_at.result c.price_at.ensures
+returns g c = price_asked g.P.Price.meaning c.args.self.now.broker c.args.client c.in_ok-holding.holding c.args.more c.in_ok-holding.ensures.1 c.price_at.result c.price_at.ensures
