@@ -8,7 +8,7 @@ returns-in_err-next_word c =
     let p = err_from_is_err_and c.from_residual.result c.from_residual.ensures.1 in
     record {
       line = c.next_word.ensures.line;
-      cases = rw (p.1, p.2) (space_missed _ _ _ _ c.in_err-next-word.ensures.cases);
+      cases = rw (p.1, p.2) (space_missed _ _ _ _ c.in_err-next_word.ensures.cases);
     }
 
 pub returns-in_err-value : goal.returns-in_err-value

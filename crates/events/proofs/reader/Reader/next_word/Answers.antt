@@ -4,4 +4,4 @@ use Rattle.events.proofs.reader.Reader.next_word.Goals as goal
 
 pub invariant_of-self : goal.invariant_of-self
 invariant_of-self c =
-    (omega (arith, ap length c.text.ensures, stands_within _ _ _ _ _ c.args.self.now.within c.in-Some.is c.word.ensures), tt)
+    record { within = omega (arith, ap length c.text.ensures, stands_within _ _ _ _ _ c.args.self.now.within c.in-Some.is c.word.ensures) }
