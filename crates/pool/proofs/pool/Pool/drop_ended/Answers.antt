@@ -4,8 +4,8 @@ use Rattle.pool.proofs.Noted.{set_noted}
 use Rattle.pool.proofs.Drops.{drop_one}
 use Rattle.pool.proofs.pool.Pool.drop_ended.Goals as goal
 
-pub invariant-of-self : goal.invariant-of-self
-invariant-of-self c =
+pub invariant_of-self : goal.invariant_of-self
+invariant_of-self c =
     let b = c.args.self.now in
     let found = c.in-Some.ensures in
     let n = found.0 in

@@ -24,9 +24,9 @@ returns-in_default c =
 pub returns : goal.returns
 returns c =
     let b = c.args.self.now in
-    let after : SlipNumbers → Broker = λ s. seen b.unit b.tick s.asks (Some s) b.members c.move-top.new.self in
+    let after : SlipNumbers → Broker = λ s. seen b.unit b.tick s.asks (Some s) b.members c.move_top.new.self in
     record {
-      grants = λ m clear source ne. subst (λ (s : SlipNumbers). Step m (view b) (Ask c.args.client) (Granted s) (after s)) (sym c.next-slip-slip.ensures)
-          (grant_step m b.unit b.tick b.asks b.passage b.members b.ledger c.move-top.new.self c.args.client c.in-Some.frame c.move-top.ensures.frames c.args.from c.in-Some.ensures.moved clear source ne);
-      opens = (ap (λ (s : SlipNumbers). s.former) c.next-slip-slip.ensures, refl);
+      grants = λ m clear source ne. subst (λ (s : SlipNumbers). Step m (view b) (Ask c.args.client) (Granted s) (after s)) (sym c.next_slip-slip.ensures)
+          (grant_step m b.unit b.tick b.asks b.passage b.members b.ledger c.move_top.new.self c.args.client c.in-Some.frame c.move_top.ensures.frames c.args.from c.in-Some.ensures.moved clear source ne);
+      opens = (ap (λ (s : SlipNumbers). s.former) c.next_slip-slip.ensures, refl);
     }

@@ -18,7 +18,7 @@ returns-in-Some c =
     let b = c.args.self.now in
     let found = c.in_ok-caller.ensures in
     let v = c.in-Some.ensures.moved in
-    λ m. (hand_back_step m b.unit b.tick b.asks b.passage b.members b.ledger c.move-top.new.self c.args.client c.in-Some.frame c.in_ok-caller.field-0 found.1 v c.move-top.ensures.frames found.0)
+    λ m. (hand_back_step m b.unit b.tick b.asks b.passage b.members b.ledger c.move_top.new.self c.args.client c.in-Some.frame c.in_ok-caller.field-0 found.1 v c.move_top.ensures.frames found.0)
 
 pub returns-in-None : goal.returns-in-None
 returns-in-None c =

@@ -12,8 +12,8 @@ returns-in_err-caller c =
     let p = err_from_is_err_and c.from_residual.result c.from_residual.ensures.1 in
     rw (p.1, p.2) (λ m. (refused c.in_err-caller.ensures))
 
-pub invariant-of-self : goal.invariant-of-self
-invariant-of-self c =
+pub invariant_of-self : goal.invariant_of-self
+invariant_of-self c =
     let b = c.args.self.now in
     let found = c.in_ok-caller.ensures in
     let n = inside 1 256 c.args.client found.0.0 in

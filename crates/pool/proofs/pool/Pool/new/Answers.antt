@@ -4,8 +4,8 @@ use Rattle.pool.proofs.Starts.{same_at, new_view}
 use Rattle.pool.proofs.Noted.{new_noted}
 use Rattle.pool.proofs.pool.Pool.new.Goals as goal
 
-pub invariant-of-result : goal.invariant-of-result
-invariant-of-result c = (refl, ((λ i. ap in_ranges (same_at 256 i None)), ((λ i _. c.new.ensures.stacks (suc i)), (new_noted 256 c.new-2.result c.new-2.ensures, tt))))
+pub invariant_of-result : goal.invariant_of-result
+invariant_of-result c = (refl, ((λ i. ap in_ranges (same_at 256 i None)), ((λ i _. c.new.ensures.stacks (suc i)), (new_noted 256 c.new-2.result c.new-2.ensures, tt))))
 
 pub returns : goal.returns
 returns c = new_view c.new.result c.new.ensures.frames c.new.ensures.stacks

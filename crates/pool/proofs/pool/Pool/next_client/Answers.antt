@@ -10,14 +10,14 @@ pub loop-place-preserved : goal.loop-place-preserved
 loop-place-preserved c =
     let b = c.args.self.now in
     let inv = c.loop-place.invariant in
-    (omega (arith, inv.0), nobody_more b.members c.args.after c.loop-place.place (sym c.is-some.ensures ∙ c.if-is-some.false) inv.1)
+    (omega (arith, inv.0), nobody_more b.members c.args.after c.loop-place.place (sym c.is_some.ensures ∙ c.if-is_some.false) inv.1)
 
-pub returns-then-is-some : goal.returns-then-is-some
-returns-then-is-some c =
+pub returns-then-is_some : goal.returns-then-is_some
+returns-then-is_some c =
     let b = c.args.self.now in
     let inv = c.loop-place.invariant in (
       omega (arith, inv.0),
-      somebody_seen b.members c.args.after c.loop-place.place (stack_of b.ledger) (sym c.is-some.ensures ∙ c.if-is-some.true),
+      somebody_seen b.members c.args.after c.loop-place.place (stack_of b.ledger) (sym c.is_some.ensures ∙ c.if-is_some.true),
       nobody_seen b.members c.args.after c.loop-place.place (stack_of b.ledger) inv.1,
     )
 

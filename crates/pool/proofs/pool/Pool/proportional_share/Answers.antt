@@ -5,16 +5,16 @@ use Rattle.ledger.proofs.Ledgers.{few_frames}
 use Rattle.pool.proofs.Tables.{small_share, noted_ranges, shares_among}
 use Rattle.pool.proofs.pool.Pool.proportional_share.Goals as goal
 
-pub nonzero-div-result : goal.nonzero-div-result
-nonzero-div-result c =
+pub nonzero_div-result : goal.nonzero_div-result
+nonzero_div-result c =
     let b = c.args.self.now in
     let found = c.in_ok-member.ensures in
     let some = noted_ranges b.members b.ranges c.args.client c.in_ok-member.member found.1 in
     let among = shares_among b.members (stack_of b.ledger) c.args.client c.in_ok-member.member (inside 1 256 c.args.client found.0.0) found.1 in
     omega (arith, some, among, c.totals-all.ensures.shares)
 
-pub overflow-cast-result-3 : goal.overflow-cast-result-3
-overflow-cast-result-3 c =
+pub overflow_cast-result-3 : goal.overflow_cast-result-3
+overflow_cast-result-3 c =
     let b = c.args.self.now in
     let found = c.in_ok-member.ensures in
     let some = noted_ranges b.members b.ranges c.args.client c.in_ok-member.member found.1 in

@@ -3,7 +3,7 @@ use Rattle.rules.specs.declared.offer.Quote.{Quote}
 use Rattle.price.proofs.Offered.{valid}
 use Rattle.price.proofs.key.Ranked.new.Goals as goal
 
-pub invariant-of-result : goal.invariant-of-result
-invariant-of-result g c =
+pub invariant_of-result : goal.invariant_of-result
+invariant_of-result g c =
     let told = (g.P.Price.lawful c.args.price.now).in_range c.args.offer.offer (valid c.args.offer) in
-    (subst (λ (q : Quote). 1 ≤ q.bottom) (sym c.quote-quote.ensures) told.some_bottom, tt)
+    record { whole = subst (λ (q : Quote). 1 ≤ q.bottom) (sym c.quote-quote.ensures) told.some_bottom }
