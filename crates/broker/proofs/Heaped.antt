@@ -1,17 +1,10 @@
 -- The heap of bids as a map.
 use Rattle.std.proofs.Common.{◌≡◌, ℕ, eqb, List, None, Option, arith}
 use Rattle.std.proofs.lemmas.Bool.Decides.{nat_tests}
-use Rattle.std.specs.Map.{update}
 use Rattle.heap.specs.declared.records.Record.{Record}
 use Rattle.heap.specs.Heaps.{keys, is_in}
-use Rattle.laws.specs.ByNumber.{put}
 use Rattle.price.specs.declared.key.Ranked.{Ranked}
 
 pub nobody_in : (xs : List (Record Ranked)) (c : ℕ) → keys xs 0 c ≡ None
 unfolding keys is_in
 nobody_in xs c = grind (arith, nat_tests)
-
--- an update at a number is what is put there
-pub update_put : {A : Type 0} (f : ℕ → Option A) (c : ℕ) (x : Option A) (d : ℕ) → update eqb f c x d ≡ put f c x d
-unfolding put
-update_put f c x d = grind (arith, nat_tests)

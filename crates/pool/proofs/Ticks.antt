@@ -21,11 +21,16 @@ nobody_keyed xs c = grind (arith, nat_tests)
 pub nobody_in : (xs : List (Record End)) (c : ℕ) → ticks (keys xs 0) c ≡ None
 nobody_in xs c = ap (option_map (λ e. e.tick)) (nobody_keyed xs c)
 
+-- an update at a number is what is put there
+pub update_put : {A : Type 0} (f : ℕ → Option A) (c : ℕ) (x : Option A) (d : ℕ) → update eqb f c x d ≡ put f c x d
+unfolding put
+update_put f c x d = grind (arith, nat_tests)
+
 -- one key replaced is one tick replaced
 pub tick_put : (m n : ℕ → Option End) (o : ℕ) (w : Option End) → ((q : ℕ) → n q ≡ update eqb m o w q) →
     (q : ℕ) → ticks n q ≡ put (ticks m) o (option_map (λ e. e.tick) w) q
 unfolding put
-tick_put m n o w h q = ap (option_map (λ e. e.tick)) (h q) ∙ chosen (eqb q o)
+tick_put m n o w h q = ap (option_map (λ e. e.tick)) (h q ∙ update_put m o w q) ∙ chosen (eqb q o)
   where
     chosen : (b : Bool) → option_map (λ e. e.tick) (cond b w (m q)) ≡ cond b (option_map (λ e. e.tick) w) (ticks m q)
     chosen true = refl

@@ -1,5 +1,5 @@
 use Rattle.std.proofs.Common.{◌∙◌}
-use Rattle.broker.proofs.Heaped.{update_put}
+use Rattle.pool.proofs.Ticks.{update_put}
 use Rattle.broker.proofs.payers.Payers.put.Goals as goal
 
 pub returns : goal.returns

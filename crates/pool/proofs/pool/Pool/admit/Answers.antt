@@ -20,13 +20,13 @@ invariant_of-self c =
     let clear = c.in_ok-admissible.ensures.0 in
     let n = inside 1 256 c.args.client clear.0 in
     let few : c.args.maximum ≤ 4_096 = let h = clear.1.1.1.1.1.1.0 in omega (arith, few_frames b.ledger) in
-    let i : c.args.client - 1 < length b.members = omega (arith, b.places, n) in (
-      length-set b.members (c.args.client - 1) _ ∙ b.places,
-      (
-        set_ranges b.members (c.args.client - 1) _ i (new_ranges c.args.shares c.args.class c.args.minimum c.args.maximum clear.1.0 clear.1.1.0 few) b.ranges,
-        (set_stray b.members b.ledger (c.args.client - 1) _ i b.stray, (set_unestimated b.members b.ends c.args.client (c.args.client - 1) _ (omega (arith, n)) i (not_there _ (stack_of b.ledger c.args.client) clear.1.1.1.1.1.0) refl b.noted, tt)),
-      ),
-    )
+    let i : c.args.client - 1 < length b.members = omega (arith, b.places, n) in
+    record {
+      places = length-set b.members (c.args.client - 1) _ ∙ b.places;
+      ranges = set_ranges b.members (c.args.client - 1) _ i (new_ranges c.args.shares c.args.class c.args.minimum c.args.maximum clear.1.0 clear.1.1.0 few) b.ranges;
+      stray = set_stray b.members b.ledger (c.args.client - 1) _ i b.stray;
+      noted = set_unestimated b.members b.ends c.args.client (c.args.client - 1) _ (omega (arith, n)) i (not_there _ (stack_of b.ledger c.args.client) clear.1.1.1.1.1.0) refl b.noted;
+    }
 
 pub returns : goal.returns
 returns c =

@@ -1,4 +1,5 @@
 use Rattle.std.proofs.Common.{◌≡◌, Some, sym, refl, ap, ◌∙◌, inl, arith, rules}
+use Rattle.std.proofs.lemmas.Bool.Decides.{nat_tests}
 use Rattle.laws.specs.Calls.{refused, delivered}
 use Rattle.laws.specs.Broker.{SlipNumbers}
 use Rattle.pool.proofs.Views.{some_same}
@@ -17,7 +18,8 @@ returns-else-eq c =
     let f : c.in-Some.passage.frame ≡ c.args.slip.frame = ap (λ (s : SlipNumbers). s.frame) same in
     let o : c.in-Some.passage.former ≡ c.args.slip.former = ap (λ (s : SlipNumbers). s.former) same in
     let k : c.in-Some.passage.asks ≡ c.args.slip.asks = ap (λ (s : SlipNumbers). s.asks) same in
-    search (rules, arith) in
+    let h = c.if-eq.ensures in
+    grind (arith, nat_tests) in
     λ m. (refused (inl ((λ e. differ (some_same (sym c.in-Some.is ∙ e))), refl)))
 
 pub returns-in_default : goal.returns-in_default

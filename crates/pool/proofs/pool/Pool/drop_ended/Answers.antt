@@ -9,16 +9,13 @@ invariant_of-self c =
     let b = c.args.self.now in
     let found = c.in-Some.ensures in
     let n = found.0 in
-    let i : c.in-Some.client - 1 < length b.members = omega (arith, b.places, n) in (
-      length-set b.members (c.in-Some.client - 1) _ ∙ b.places,
-      (
-        set_ranges b.members (c.in-Some.client - 1) _ i (noted_true b.members b.ranges c.in-Some.client c.in-Some.member found.1) b.ranges,
-        (
-          set_stray b.members b.ledger (c.in-Some.client - 1) _ i b.stray,
-          (set_noted b.members b.ends c.take.new.self c.in-Some.client (c.in-Some.client - 1) _ (omega (arith, n)) i c.take.ensures (omega arith) refl b.noted, tt),
-        ),
-      ),
-    )
+    let i : c.in-Some.client - 1 < length b.members = omega (arith, b.places, n) in
+    record {
+      places = length-set b.members (c.in-Some.client - 1) _ ∙ b.places;
+      ranges = set_ranges b.members (c.in-Some.client - 1) _ i (noted_true b.members b.ranges c.in-Some.client c.in-Some.member found.1) b.ranges;
+      stray = set_stray b.members b.ledger (c.in-Some.client - 1) _ i b.stray;
+      noted = set_noted b.members b.ends c.take.new.self c.in-Some.client (c.in-Some.client - 1) _ (omega (arith, n)) i c.take.ensures (omega arith) refl b.noted;
+    }
 
 pub returns : goal.returns
 returns c =

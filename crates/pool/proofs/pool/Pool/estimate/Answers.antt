@@ -17,13 +17,13 @@ invariant_of-self c =
     let b = c.args.self.now in
     let found = c.in_ok-member.ensures in
     let n = inside 1 256 c.args.client found.0.0 in
-    let i : c.args.client - 1 < length b.members = omega (arith, b.places, n) in (
-      length-set b.members (c.args.client - 1) _ ∙ b.places,
-      (
-        set_ranges b.members (c.args.client - 1) _ i (noted_true b.members b.ranges c.args.client c.in_ok-member.member found.1) b.ranges,
-        (set_stray b.members b.ledger (c.args.client - 1) _ i b.stray, (set_noted b.members b.ends c.put.new.self c.args.client (c.args.client - 1) _ (omega (arith, n)) i c.put.ensures (omega arith) (ap Some (omega arith)) b.noted, tt)),
-      ),
-    )
+    let i : c.args.client - 1 < length b.members = omega (arith, b.places, n) in
+    record {
+      places = length-set b.members (c.args.client - 1) _ ∙ b.places;
+      ranges = set_ranges b.members (c.args.client - 1) _ i (noted_true b.members b.ranges c.args.client c.in_ok-member.member found.1) b.ranges;
+      stray = set_stray b.members b.ledger (c.args.client - 1) _ i b.stray;
+      noted = set_noted b.members b.ends c.put.new.self c.args.client (c.args.client - 1) _ (omega (arith, n)) i c.put.ensures (omega arith) (ap Some (omega arith)) b.noted;
+    }
 
 pub returns : goal.returns
 returns c =

@@ -18,13 +18,13 @@ invariant_of-self c =
     let found = c.in_ok-caller.ensures in
     let n = inside 1 256 c.args.client found.0.0 in
     let i : c.args.client - 1 < length b.members = omega (arith, b.places, n) in
-    let v = c.release-frames.ensures.freed (λ z. omega (arith, n, z)) in (
-      length-set b.members (c.args.client - 1) _ ∙ b.places,
-      (
-        set_ranges b.members (c.args.client - 1) None i refl b.ranges,
-        (left_stray b.members b.ledger c.release-frames.new.self c.args.client c.release-frames.result c.in_ok-caller.field-0 (omega (arith, n)) i found.1 v b.stray, (set_noted b.members b.ends c.take.new.self c.args.client (c.args.client - 1) None (omega (arith, n)) i c.take.ensures (omega arith) refl b.noted, tt)),
-      ),
-    )
+    let v = c.release-frames.ensures.freed (λ z. omega (arith, n, z)) in
+    record {
+      places = length-set b.members (c.args.client - 1) _ ∙ b.places;
+      ranges = set_ranges b.members (c.args.client - 1) None i refl b.ranges;
+      stray = left_stray b.members b.ledger c.release-frames.new.self c.args.client c.release-frames.result c.in_ok-caller.field-0 (omega (arith, n)) i found.1 v b.stray;
+      noted = set_noted b.members b.ends c.take.new.self c.args.client (c.args.client - 1) None (omega (arith, n)) i c.take.ensures (omega arith) refl b.noted;
+    }
 
 pub returns : goal.returns
 returns c =

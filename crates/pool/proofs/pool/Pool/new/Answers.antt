@@ -5,7 +5,7 @@ use Rattle.pool.proofs.Noted.{new_noted}
 use Rattle.pool.proofs.pool.Pool.new.Goals as goal
 
 pub invariant_of-result : goal.invariant_of-result
-invariant_of-result c = (refl, ((λ i. ap in_ranges (same_at 256 i None)), ((λ i _. c.new.ensures.stacks (suc i)), (new_noted 256 c.new-2.result c.new-2.ensures, tt))))
+invariant_of-result c = record { places = refl; ranges = λ i. ap in_ranges (same_at 256 i None); stray = λ i _. c.new.ensures.stacks (suc i); noted = new_noted 256 c.new-2.result c.new-2.ensures }
 
 pub returns : goal.returns
 returns c = new_view c.new.result c.new.ensures.frames c.new.ensures.stacks
