@@ -10,9 +10,9 @@ use Rattle.pool.specs.View as pool
 use Rattle.pool.specs.Clocks.{Clocked, Dropped, at_tick}
 use Rattle.pool.proofs.Clocks.{clocked_none, clocked_one, clocked_falls, few_end, clock_step}
 use Rattle.broker.specs.Bids.{listed}
-use Rattle.broker.specs.View.{Broker, view, Kept, Dropping, Relisted, Stepped}
+use Rattle.broker.specs.View.{Broker, view, Kept, Dropping, Relisted, Called}
 use Rattle.broker.proofs.Bids.{same_listed}
-use Rattle.broker.proofs.Steps.{stepped, relisted_one}
+use Rattle.broker.proofs.Steps.{called, relisted_one}
 
 -- where only clients change, and then again only clients, only clients have changed
 only_clients : (v b w : rules.Broker) (cs : ℕ → Option rules.Client) → b ≡ moved v v.free b.clients → w ≡ moved b b.free cs → w ≡ moved v v.free w.clients
@@ -58,10 +58,10 @@ module _ {P : Type 0} (meaning : P → Meaning) where
           omega (arith, one, same)
 
   -- all ended estimates dropped, and the tick set
-  pub clock_stepped : ((p : P) → Lawful (meaning p)) → (t : ℕ) (b : Broker P) (n : ℕ) (e : Broker P) (q : Pool) → ((m : Meaning) → IsClear m (view b) (SetClock t)) → Dropping meaning t b n e → ((c : ℕ) → ends t ((view e).clients c) ≡ 0) →
-      pool.view q ≡ at_tick (view e) t → Stepped meaning b (SetClock t) (Count n) (record { price = e.price; pool = q; payers = e.payers })
-  clock_stepped lawful t b n e q clear all none set =
-      stepped meaning lawful b (record { price = e.price; pool = q; payers = e.payers })
+  pub clock_called : ((p : P) → Lawful (meaning p)) → (t : ℕ) (b : Broker P) (n : ℕ) (e : Broker P) (q : Pool) → ((m : Meaning) → IsClear m (view b) (SetClock t)) → Dropping meaning t b n e → ((c : ℕ) → ends t ((view e).clients c) ≡ 0) →
+      pool.view q ≡ at_tick (view e) t → Called meaning b (SetClock t) (Count n) (record { price = e.price; pool = q; payers = e.payers })
+  clock_called lawful t b n e q clear all none set =
+      called meaning lawful b (record { price = e.price; pool = q; payers = e.payers })
       (λ _. subst (λ (v : rules.Broker). Step (meaning b.price) (view b) (SetClock t) (Count n) v) (sym (set ∙ ap (λ (v : rules.Broker). at_tick v t) all.rest))
       (clock_step (meaning b.price) (view b) t n (view e).clients (clear (meaning b.price)) all.clocked none))
       (λ k. same_listed (meaning e.price) (view e) (pool.view q) (listed e.payers) (λ c. ap (λ (v : rules.Broker). v.clients c) set) (all.kept k)) all.price

@@ -10,7 +10,7 @@ use Rattle.laws.proofs.Guaranteed.{histories_keep_guarantees}
 use Rattle.pool.specs.declared.pool.Pool.{Pool}
 use Rattle.pool.specs.View as pool
 use Rattle.broker.specs.Bids.{listed, Lists, Listed}
-use Rattle.broker.specs.View.{Broker, view, Kept, Led, Guaranteed, LooksAtBids, Stepped, Relisted}
+use Rattle.broker.specs.View.{Broker, view, Kept, History, Guaranteed, LooksAtBids, Stepped, KeepsBids, Called, Relisted}
 use Rattle.broker.proofs.Bids.{relisted, relisted_two, same_listed, still_lists}
 use Rattle.broker.proofs.Others.{refused_others}
 
@@ -19,21 +19,24 @@ guaranteed m l h b r = histories_keep_guarantees m l h b r
 
 module _ {P : Type 0} (meaning : P → Meaning) where
   module _ (lawful : (p : P) → Lawful (meaning p)) (before after : Broker P) {x : Call} {a : Answer} where
-    pub stepped : ((LooksAtBids x (view before) → Kept meaning before) → Step (meaning before.price) (view before) x a (view after)) →
-        (Kept meaning before → Kept meaning after) → after.price ≡ before.price → Stepped meaning before x a after
-    stepped s k e =
-        let onward : (h : List Event) → Led meaning h before → Led meaning (event x a (view after) ∷ h) after =
-        λ h led. (subst (λ (p : P). Led meaning h before → RunOf p h) (sym e) (λ r. then r.0 (s (λ _. r.1))) led, k led.1) in
+    -- a step of the rules, under a price that stays, carries on every history
+    pub stepped : Step (meaning before.price) (view before) x a (view after) → after.price ≡ before.price → Stepped meaning before x a after
+    stepped s e =
+        let onward : (h : List Event) → History (meaning before.price) h (view before) → History (meaning after.price) (event x a (view after) ∷ h) (view after) =
+        λ h led. subst (λ (p : P). RunOf p h) (sym e) (then led s) in
         record {
           step = s;
-          kept = k;
           price = e;
           history = onward;
-          guarantees = λ h led. guaranteed (meaning after.price) (lawful after.price) (event x a (view after) ∷ h) (view after) (onward h led).0;
+          guarantees = λ h led. guaranteed (meaning after.price) (lawful after.price) (event x a (view after) ∷ h) (view after) (onward h led);
         }
       where
         RunOf : P → List Event → Type 0
         RunOf p h = Run (meaning p) rules.new_broker (event x a (view after) ∷ h) (view after)
+
+    pub called : ((LooksAtBids x (view before) → Kept meaning before) → Step (meaning before.price) (view before) x a (view after)) →
+        KeepsBids meaning before after → after.price ≡ before.price → Called meaning before x a after
+    called s k e = record { stepped = λ kept. stepped (s kept) e; kept = k; price = e }
 
   -- what is known of a broker's price and pool is known of the broker
   placed : (b : Broker P) (p : P) (q : Pool) → b.price ≡ p → b.pool ≡ q → Listed (meaning p) (pool.view q) (listed b.payers) → Kept meaning b
@@ -72,21 +75,28 @@ module _ {P : Type 0} (meaning : P → Meaning) where
     unlisted = record { price = b.price; pool = q; payers = b.payers }
 
     -- a call that leaves the list as it is
-    pub kept_stepped : (Kept meaning b → Kept meaning unlisted) → Stepped meaning b x a unlisted
-    kept_stepped k = stepped lawful b unlisted (λ _. step) k refl
+    pub kept_called : (Kept meaning b → Kept meaning unlisted) → Called meaning b x a unlisted
+    kept_called k = called lawful b unlisted (λ _. step) k refl
 
     -- a call that leaves all clients
-    pub quiet_stepped : ((d : ℕ) → (pool.view q).clients d ≡ (view b).clients d) → Stepped meaning b x a unlisted
-    quiet_stepped same = kept_stepped (same_listed (meaning b.price) (view b) (pool.view q) (listed b.payers) same)
+    pub quiet_called : ((d : ℕ) → (pool.view q).clients d ≡ (view b).clients d) → Called meaning b x a unlisted
+    quiet_called same = kept_called (same_listed (meaning b.price) (view b) (pool.view q) (listed b.payers) same)
 
     -- a call on one client, which is listed anew
-    pub listed_stepped : (c : ℕ) (d : Broker P) → ((e : ℕ) → e ≢ c → (pool.view q).clients e ≡ (view b).clients e) → Relisted meaning unlisted c d → Stepped meaning b x a d
-    listed_stepped c d same r =
-        stepped lawful b d
+    pub listed_called : (c : ℕ) (d : Broker P) → ((e : ℕ) → e ≢ c → (pool.view q).clients e ≡ (view b).clients e) → Relisted meaning unlisted c d → Called meaning b x a d
+    listed_called c d same r =
+        called lawful b d
         (λ _. subst (λ (o : Pool). Step (meaning b.price) (view b) x a (pool.view o)) (sym r.pool) step)
         (λ all. relisted_one (view b) unlisted d c r all same) r.price
 
   -- a refused call
-  pub refused_stepped : (lawful : (p : P) → Lawful (meaning p)) (b : Broker P) (q : Pool) {x : Call} {r : Refusal} → Step (meaning b.price) (view b) x (Refused r) (pool.view q) →
-      Stepped meaning b x (Refused r) (record { price = b.price; pool = q; payers = b.payers })
-  refused_stepped lawful b q {x = x} {r = r} step = quiet_stepped lawful b q step (refused_others (meaning b.price) (view b) x r (pool.view q) step)
+  pub refused_called : (lawful : (p : P) → Lawful (meaning p)) (b : Broker P) (q : Pool) {x : Call} {r : Refusal} → Step (meaning b.price) (view b) x (Refused r) (pool.view q) →
+      Called meaning b x (Refused r) (record { price = b.price; pool = q; payers = b.payers })
+  refused_called lawful b q {x = x} {r = r} step = quiet_called lawful b q step (refused_others (meaning b.price) (view b) x r (pool.view q) step)
+
+-- a call that does not look at the list of bids is a step whether or not the list is kept
+pub unlooked : {P : Type 0} {meaning : P → Meaning} {b d : Broker P} {x : Call} {a : Answer} → (LooksAtBids x (view b) → ⊥) → Called meaning b x a d → Stepped meaning b x a d
+unlooked none c = c.stepped (λ l. absurd (none l))
+
+pub always : {P : Type 0} {meaning : P → Meaning} {b d : Broker P} {x : Call} {a : Answer} → Stepped meaning b x a d → KeepsBids meaning b d → Called meaning b x a d
+always s k = record { stepped = λ _. s; kept = k; price = s.price }

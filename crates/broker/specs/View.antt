@@ -13,7 +13,7 @@
 -- HandsBack    a refused delivery hands this slip back
 -- LooksAtBids  whether a call looks at the list of bids: an ask that is refused for nothing else and finds no frame free
 -- Stepped      a call on a broker under a price is a step of the rules, and leaves the price
--- Keeps        the list of bids stays kept
+-- KeepsBids    the list of bids stays kept
 -- Called       a call on a broker steps so if the list of bids is kept where the call looks at it, and keeps the list
 -- Relisted     one client was listed anew, and nothing else changed
 -- Dropping     estimates that end by a tick were dropped, so many, and their clients were listed anew
@@ -101,12 +101,12 @@ pub record Stepped {P : Type 0} (meaning : P → Meaning) (before : Broker P) (x
   pub history : (h : List Event) → History (meaning before.price) h (view before) → History (meaning after.price) (event x a (view after) ∷ h) (view after)
   pub guarantees : (h : List Event) → History (meaning before.price) h (view before) → Guarantees (meaning after.price) (event x a (view after) ∷ h)
 
-abbrev pub Keeps : {P : Type 0} → (P → Meaning) → Broker P → Broker P → Type 0
-Keeps meaning before after = Kept meaning before → Kept meaning after
+abbrev pub KeepsBids : {P : Type 0} → (P → Meaning) → Broker P → Broker P → Type 0
+KeepsBids meaning before after = Kept meaning before → Kept meaning after
 
 pub record Called {P : Type 0} (meaning : P → Meaning) (before : Broker P) (x : Call) (a : Answer) (after : Broker P) : Type 0 where
   pub stepped : (LooksAtBids x (view before) → Kept meaning before) → Stepped meaning before x a after
-  pub kept : Keeps meaning before after
+  pub kept : KeepsBids meaning before after
   pub price : after.price ≡ before.price
 
 pub record Relisted {P : Type 0} (meaning : P → Meaning) (before : Broker P) (c : ℕ) (after : Broker P) : Type 0 where

@@ -3,7 +3,7 @@ ghost use Rattle.std.specs.Prelude.{◌≡◌};
 ghost use Rattle.laws.specs.Broker.{new_broker};
 ghost use Rattle.laws.specs.Calls.{Start, Admit, Deliver, HandBack, Leave, SetEstimate};
 ghost use Rattle.pool.specs.View.{done, handed, counted};
-ghost use Rattle.broker.specs.View.{view, Kept, Keeps, Guaranteed, delivery, HandsBack, Stepped};
+ghost use Rattle.broker.specs.View.{view, Kept, KeepsBids, Guaranteed, delivery, HandsBack, Stepped};
 
 use super::Broker;
 use crate::payers::Payers;
@@ -31,7 +31,7 @@ impl<P: Price> Broker<P> {
     /// are refused, and then a broker that has frames already.
     pub fn start(&mut self, unit: u32, frames: u32) -> Result<(), Refusal>
         ensures step { Stepped P.Price.meaning self.old (Start unit frames) (done result) self.new }
-        ensures kept { Keeps P.Price.meaning self.old self.new }
+        ensures kept { KeepsBids P.Price.meaning self.old self.new }
     {
         self.pool.start(unit, frames)
     }
@@ -39,7 +39,7 @@ impl<P: Price> Broker<P> {
     // Closes the open passage, where these are the numbers of its slip.
     pub(crate) fn close(&mut self, slip: SlipNumbers) -> Result<(), Refusal>
         ensures step { Stepped P.Price.meaning self.old (Deliver slip) (done result) self.new }
-        ensures kept { Keeps P.Price.meaning self.old self.new }
+        ensures kept { KeepsBids P.Price.meaning self.old self.new }
     {
         self.pool.close(slip)
     }
@@ -48,7 +48,7 @@ impl<P: Price> Broker<P> {
     /// refused and handed back.
     pub fn deliver(&mut self, mut slip: Slip) -> Result<(), Undelivered>
         ensures step { Stepped P.Price.meaning self.old (Deliver slip.numbers) (delivery result) self.new }
-        ensures kept { Keeps P.Price.meaning self.old self.new }
+        ensures kept { KeepsBids P.Price.meaning self.old self.new }
         ensures slip { HandsBack slip result }
     {
         match self.close(slip.numbers) {
@@ -71,7 +71,7 @@ impl<P: Price> Broker<P> {
         maximum: u32,
     ) -> Result<(), Refusal>
         ensures step { Stepped P.Price.meaning self.old (Admit client shares class minimum maximum) (done result) self.new }
-        ensures kept { Keeps P.Price.meaning self.old self.new }
+        ensures kept { KeepsBids P.Price.meaning self.old self.new }
     {
         self.pool.admit(client, shares, class, minimum, maximum)
     }
@@ -80,7 +80,7 @@ impl<P: Price> Broker<P> {
     /// is refused, then any client while a passage is open, one that is not admitted, and one that holds no frame.
     pub fn hand_back(&mut self, client: u32) -> Result<u32, Refusal>
         ensures step { Stepped P.Price.meaning self.old (HandBack client) (handed result) self.new }
-        ensures kept { Keeps P.Price.meaning self.old self.new }
+        ensures kept { KeepsBids P.Price.meaning self.old self.new }
     {
         let frame = self.pool.hand_back(client)?;
         self.relist(client);
@@ -91,7 +91,7 @@ impl<P: Price> Broker<P> {
     /// refused, then any client while a passage is open, and one that is not admitted.
     pub fn leave(&mut self, client: u32) -> Result<u32, Refusal>
         ensures step { Stepped P.Price.meaning self.old (Leave client) (counted result) self.new }
-        ensures kept { Keeps P.Price.meaning self.old self.new }
+        ensures kept { KeepsBids P.Price.meaning self.old self.new }
     {
         let frames = self.pool.leave(client)?;
         self.relist(client);
@@ -103,7 +103,7 @@ impl<P: Price> Broker<P> {
     /// active count above the frames, and an end at or before the clock.
     pub fn estimate(&mut self, client: u32, active: u32, end: u32) -> Result<(), Refusal>
         ensures step { Stepped P.Price.meaning self.old (SetEstimate client active end) (done result) self.new }
-        ensures kept { Keeps P.Price.meaning self.old self.new }
+        ensures kept { KeepsBids P.Price.meaning self.old self.new }
     {
         self.pool.estimate(client, active, end)?;
         self.relist(client);

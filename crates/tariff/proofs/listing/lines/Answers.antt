@@ -19,7 +19,7 @@ rows_more xs i h e f =
 
 pub loop-i-preserved : goal.loop-i-preserved
 loop-i-preserved c =
-    rows_more c.args.sheet.now c.loop-i.i c.loop-i-test.true c.loop-i.invariant c.in_ok-add-row.ensures
+    rows_more c.args.sheet.now c.loop-i.i c.loop-i-test.true c.loop-i.invariant c.in_ok-add_row.ensures
 
 pub returns : goal.returns
 returns c = c.loop-i.invariant ∙ ap (rows 1) (take_all c.loop-i.i c.args.sheet.now c.loop-i-test.false)

@@ -2,14 +2,14 @@ use Rattle.std.proofs.lemmas.Result.{err_from_is_err_and}
 use Rattle.pool.specs.View as pool
 use Rattle.broker.specs.View.{view}
 use Rattle.broker.proofs.Others.{step_others}
-use Rattle.broker.proofs.Steps.{refused_stepped, listed_stepped}
+use Rattle.broker.proofs.Steps.{refused_called, listed_called, unlooked}
 use Rattle.broker.proofs.broker.Broker.estimate.Goals as goal
 
 pub returns-in_err-estimate : goal.returns-in_err-estimate
 returns-in_err-estimate g c =
     let b = c.args.self.now in
     let p = err_from_is_err_and c.from_residual.result c.from_residual.ensures.1 in
-    rw (p.1, p.2) (refused_stepped g.P.Price.meaning g.P.Price.lawful b c.estimate.new.self (c.in_err-estimate.ensures (g.P.Price.meaning b.price)))
+    rw (p.1, p.2) (let call = refused_called g.P.Price.meaning g.P.Price.lawful b c.estimate.new.self (c.in_err-estimate.ensures (g.P.Price.meaning b.price)) in record { step = unlooked (λ none. none) call; kept = call.kept })
 
 pub returns : goal.returns
 returns g c =
@@ -17,4 +17,5 @@ returns g c =
     let m = g.P.Price.meaning b.price in
     let q = c.estimate.new.self in
     let step = c.in_ok-estimate.ensures m in
-    listed_stepped g.P.Price.meaning g.P.Price.lawful b q step c.args.client c.relist.new.self (step_others m (view b) _ _ (pool.view q) step) c.relist.ensures
+    let call = listed_called g.P.Price.meaning g.P.Price.lawful b q step c.args.client c.relist.new.self (step_others m (view b) _ _ (pool.view q) step) c.relist.ensures in
+    record { step = unlooked (λ none. none) call; kept = call.kept }

@@ -8,21 +8,21 @@ use Rattle.broker.specs.Bids.{listed}
 use Rattle.broker.specs.View.{view, Kept, LooksAtBids}
 use Rattle.broker.proofs.Bids.{same_listed}
 use Rattle.broker.proofs.Others.{ask_others}
-use Rattle.broker.proofs.Steps.{stepped, relisted_both}
+use Rattle.broker.proofs.Steps.{called, relisted_both}
 use Rattle.broker.proofs.broker.Broker.grant.Goals as goal
 
 pub returns-in_err-from : goal.returns-in_err-from
 returns-in_err-from g c =
     let b = c.args.self.now in
     let p = err_from_is_err_and c.from_residual.result c.from_residual.ensures.1 in
-    rw (p.1, p.2) (record { step = stepped g.P.Price.meaning g.P.Price.lawful b b (λ kept. refused (c.in_err-from.ensures.source kept)) (λ k. k) refl; opens = tt })
+    rw (p.1, p.2) (record { called = called g.P.Price.meaning g.P.Price.lawful b b (λ kept. refused (c.in_err-from.ensures.source kept)) (λ k. k) refl; opens = tt })
 
 pub returns-in_default : goal.returns-in_default
 returns-in_default g c =
     let b = c.args.self.now in
     let (same, never) = c.in_default.ensures.grants in
     record {
-      step = stepped g.P.Price.meaning g.P.Price.lawful b _
+      called = called g.P.Price.meaning g.P.Price.lawful b _
           (λ kept. absurd (let s = c.in_ok-from.ensures.source kept in never (g.P.Price.meaning b.price) s.1.0 s.1.1))
           (λ k. same_listed (g.P.Price.meaning b.price) (view b) (pool.view c.grant.new.self) (listed b.payers) (λ d. ap (λ (v : rules.Broker). v.clients d) same) k) refl;
       opens = tt;
@@ -39,7 +39,7 @@ returns g c =
     let made : (LooksAtBids (Ask c.args.client) (view b) → Kept g.P.Price.meaning b) → Step m (view b) (Ask c.args.client) (Granted c.in-Some.slip) (pool.view k) =
     λ kept. let s = c.in_ok-from.ensures.source kept in c.in-Some.ensures.grants m s.0 s.1.0 s.1.1 in
     record {
-      step = stepped g.P.Price.meaning g.P.Price.lawful b e
+      called = called g.P.Price.meaning g.P.Price.lawful b e
           (λ kept. subst (λ (o : Pool). Step m (view b) (Ask c.args.client) (Granted c.in-Some.slip) (pool.view o)) (sym q) (made kept))
           (λ all. relisted_both g.P.Price.meaning (view b) _ d e c.args.client c.in-Some.slip.former c.relist.ensures c.relist-2.ensures all
           (ask_others m (view b) c.args.client c.in-Some.slip (pool.view k) (made (λ _. all))))

@@ -14,9 +14,9 @@ returns-then-words-ne3 c =
 pub returns : goal.returns
 returns c =
     let xs = c.args.words.now in
-    let u = said xs 0 c.index-words-0.result (omega arith) c.index-words-0.is c.as-str.ensures.value in
-    let v = said xs 1 c.index-words-1.result (omega arith) c.index-words-1.is c.as-str-2.ensures.value in
-    let w = said xs 2 c.index-words-2.result (omega arith) c.index-words-2.is c.as-str-3.ensures.value in
+    let u = said xs 0 c.index-words-0.result (omega arith) c.index-words-0.is c.as_str.ensures.value in
+    let v = said xs 1 c.index-words-1.result (omega arith) c.index-words-1.is c.as_str-2.ensures.value in
+    let w = said xs 2 c.index-words-2.result (omega arith) c.index-words-2.is c.as_str-3.ensures.value in
     record {
       three = λ e. rw (← u, ← v, ← w) c.of.ensures;
       other = λ n. absurd (n (rw length-map c.if-words-ne3.false));
