@@ -2,6 +2,6 @@ mod Heaped
 pub mod Bids
 mod Others
 pub mod Noted
-mod Steps
+pub mod Steps
 mod Asks
 mod Clock

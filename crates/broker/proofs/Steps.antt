@@ -10,7 +10,7 @@ use Rattle.laws.proofs.Guaranteed.{histories_keep_guarantees}
 use Rattle.pool.specs.declared.pool.Pool.{Pool}
 use Rattle.pool.specs.View as pool
 use Rattle.broker.specs.Bids.{listed, Lists, Listed}
-use Rattle.broker.specs.View.{Broker, view, Kept, History, Guaranteed, LooksAtBids, Stepped, KeepsBids, Called, Relisted}
+use Rattle.broker.specs.View.{Broker, view, Kept, History, Led, Guaranteed, LooksAtBids, Stepped, KeepsBids, Called, Relisted}
 use Rattle.broker.proofs.Bids.{relisted, relisted_two, same_listed, still_lists}
 use Rattle.broker.proofs.Others.{refused_others}
 
@@ -100,3 +100,7 @@ unlooked none c = c.stepped (λ l. absurd (none l))
 
 pub always : {P : Type 0} {meaning : P → Meaning} {b d : Broker P} {x : Call} {a : Answer} → Stepped meaning b x a d → KeepsBids meaning b d → Called meaning b x a d
 always s k = record { stepped = λ _. s; kept = k; price = s.price }
+
+-- a call carries on what leads to a broker
+pub led_on : {P : Type 0} {meaning : P → Meaning} {b d : Broker P} {x : Call} {a : Answer} → Called meaning b x a d → (h : List Event) → Led meaning h b → Led meaning (event x a (view d) ∷ h) d
+led_on c h l = ((c.stepped (λ _. l.1)).history h l.0, c.kept l.1)

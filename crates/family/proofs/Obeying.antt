@@ -9,7 +9,8 @@ use Rattle.laws.specs.Histories.{Event, event}
 use Rattle.laws.specs.Families.{Tagged, tagged, own}
 use Rattle.laws.proofs.Guaranteed.{histories_keep_guarantees}
 use Rattle.broker.specs.declared.broker.Broker.{Broker}
-use Rattle.broker.specs.View.{view, Led, Called}
+use Rattle.broker.specs.View.{view, Led}
+use Rattle.broker.proofs.Steps.{led_on}
 use Rattle.family.specs.Orders.{Order, At, Made, Obeyed, Obeys, none, one, nowhere, KeepsAll, Done}
 use Rattle.family.proofs.Places.{nth_set_same, nth_set_other}
 
@@ -37,7 +38,7 @@ module _ {P : Type 0} (meaning : P → Meaning) where
             let it = cond-true (eqb j i) (x ∷ own i h) (own i h) (eq-eqb j i same) in
             let was : made.before ≡ d = some_same (sym made.there ∙ subst (λ (n : ℕ). slice_get cs n ≡ Some d) (sym same) there) in
             let now : slice_get ds i ≡ Some made.after = subst (λ (n : ℕ). slice_get ds n ≡ Some made.after) same (ap (λ (l : List (Broker P)). slice_get l j) made.others ∙ nth_set_same cs j made.after made.before made.there) in
-            (made.after, now, λ g led. subst (λ (l : List Event). Led meaning (l ++ g) made.after) (sym it) (made.stepped.history (own i h ++ g) (subst (Led meaning (own i h ++ g)) (sym was) (on g led))))
+            (made.after, now, λ g led. subst (λ (l : List Event). Led meaning (l ++ g) made.after) (sym it) (led_on made.called (own i h ++ g) (subst (Led meaning (own i h ++ g)) (sym was) (on g led))))
         | inr other ↦
             let it = cond-false (eqb j i) (x ∷ own i h) (own i h) (ne_eqb j i other) in
             let now : slice_get ds i ≡ Some d = ap (λ (l : List (Broker P)). slice_get l i) made.others ∙ (nth_set_other cs j i made.after (λ q. other (sym q)) ∙ there) in

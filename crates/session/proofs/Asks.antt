@@ -19,7 +19,7 @@ use Rattle.laws.proofs.Puts.{put_at, put_off}
 use Rattle.pool.specs.declared.pool.Pool.{Pool}
 use Rattle.pool.specs.View as pool
 use Rattle.broker.specs.declared.broker.Broker.{Broker}
-use Rattle.broker.specs.View.{view, Kept, Stepped, Opens}
+use Rattle.broker.specs.View.{view, Kept, Stepped, KeepsBids, Called, Opens}
 use Rattle.events.specs.declared.event.Event.TheVariants as event
 use Rattle.session.specs.declared.printed.Grant.{Grant}
 use Rattle.session.specs.declared.printed.Printed.TheVariants as line
@@ -86,13 +86,13 @@ module _ (m : Meaning) (b : rules.Broker) (few : (d : ℕ) → holding b d ≤ 4
 
 -- the slip that opened the passage is not refused
 pub delivers : {P : Type 0} (meaning : P → Meaning) (g d : Broker P) (s : SlipNumbers) (r : Refusal) → (view g).passage ≡ Some s → Stepped meaning g (Deliver s) (Refused r) d → ⊥
-delivers meaning g d s r e t = not_refused (view d) (t.step (λ x. absurd x))
+delivers meaning g d s r e t = not_refused (view d) t.step
   where
     not_refused : (w : rules.Broker) → Step (meaning g.price) (view g) (Deliver s) (Refused r) w → ⊥
     not_refused w (Calls.refused (inl (h, _))) = h e
     not_refused w (Calls.refused (inr (_, h))) = h
 
-module _ {P : Type 0} (meaning : P → Meaning) (b g d : Broker P) (c : ℕ) (s : SlipNumbers) (a : Stepped meaning b (Ask c) (Granted s) g) (o : Opens meaning b c (Granted s) g) (t : Stepped meaning g (Deliver s) Done d) where
+module _ {P : Type 0} (meaning : P → Meaning) (b g d : Broker P) (c : ℕ) (s : SlipNumbers) (a : Called meaning b (Ask c) (Granted s) g) (o : Opens meaning b c (Granted s) g) (t : Stepped meaning g (Deliver s) Done d) (keeps : KeepsBids meaning g d) where
   abbrev m : Meaning
   m = meaning b.price
 
@@ -100,10 +100,10 @@ module _ {P : Type 0} (meaning : P → Meaning) (b g d : Broker P) (c : ℕ) (s 
   calls = history.event (Deliver s) Done (view d) ∷ history.event (Ask c) (Granted s) (view g) ∷ []
 
   left_by : Kept meaning b → Leaves m (view b) c s (view g)
-  left_by kept = leaves m (view b) (few_held b.pool) c s (view g) (few_held g.pool c) (o.1 kept) (a.step (λ _. kept))
+  left_by kept = leaves m (view b) (few_held b.pool) c s (view g) (few_held g.pool c) (o.1 kept) ((a.stepped (λ _. kept)).step)
 
   delivery : Step m (view g) (Deliver s) Done (view d)
-  delivery = subst (λ (p : P). Step (meaning p) (view g) (Deliver s) Done (view d)) a.price (t.step (λ x. absurd x))
+  delivery = subst (λ (p : P). Step (meaning p) (view g) (Deliver s) Done (view d)) a.price t.step
 
   -- what is printed of the slip, with the asker's price at a count
   abbrev paid : ℕ → Option Taken → Grant
@@ -117,8 +117,8 @@ module _ {P : Type 0} (meaning : P → Meaning) (b g d : Broker P) (c : ℕ) (s 
             let none_more : holding (view g) s.client + 0 ≡ holding (view g) s.client = omega arith in
             let same : p ≡ grant_of m (view b) s (view g) = e ∙ (ap (λ (q : P). grant_after (meaning q) (view g) s) a.price
             ∙ (ap (λ (n : ℕ). paid n (taken_from m (view g) s.former)) none_more ∙ ap (λ (k : Option Taken). paid (holding (view g) s.client) k) l.over)) in
-            (calls, subst (λ (q : Grant). session.Performs m (view b) (event.Ask c) (Ok (line.Grant q)) calls (view d)) (sym same) (granted (a.step (λ _. kept)) delivery));
-        kept = λ kept. t.kept (a.kept kept);
+            (calls, subst (λ (q : Grant). session.Performs m (view b) (event.Ask c) (Ok (line.Grant q)) calls (view d)) (sym same) (granted ((a.stepped (λ _. kept)).step) delivery));
+        kept = λ kept. keeps (a.kept kept);
         price = t.price ∙ a.price;
       }
 
@@ -126,6 +126,6 @@ module _ {P : Type 0} (meaning : P → Meaning) (b g d : Broker P) (c : ℕ) (s 
   grant_unprinted r f =
       record {
         performs = λ kept. let l = left_by kept in absurd (f (subst (λ (n : ℕ). HasPrice (view g) n 0) (sym l.asker) l.some) l.less);
-        kept = λ kept. t.kept (a.kept kept);
+        kept = λ kept. keeps (a.kept kept);
         price = t.price ∙ a.price;
       }

@@ -9,7 +9,7 @@ use Rattle.laws.specs.Calls.{Call, Answer, Refused, Step}
 use Rattle.laws.specs.Histories as history
 use Rattle.laws.specs.Histories.{Run, then}
 use Rattle.broker.specs.declared.broker.Broker.{Broker}
-use Rattle.broker.specs.View.{view, Kept, Led, Stepped}
+use Rattle.broker.specs.View.{view, Kept, Led, Stepped, KeepsBids, Called}
 use Rattle.session.specs.declared.printed.Printed.{Printed}
 use Rattle.session.specs.Session.{call_of, Performs, LinePerforms, Performed, Judged}
 use Rattle.session.specs.Session as session
@@ -18,10 +18,10 @@ module _ {P : Type 0} (meaning : P → Meaning) (before after : Broker P) where
   -- an event that makes one call
   pub one_call : {x : Call} {a : Answer} {e : Event} {r : Result Printed Refusal} {calls : List history.Event} →
       (Step (meaning before.price) (view before) x a (view after) → Performs (meaning before.price) (view before) e r calls (view after)) →
-      Stepped meaning before x a after → Performed meaning before e r after
-  one_call {calls = calls} prints s = record { performs = λ kept. (calls, prints (s.step (λ _. kept))); kept = s.kept; price = s.price }
+      Called meaning before x a after → Performed meaning before e r after
+  one_call {calls = calls} prints s = record { performs = λ kept. (calls, prints (s.stepped (λ _. kept)).step); kept = s.kept; price = s.price }
 
-  pub refused_call : (e : Event) (r : Refusal) → Stepped meaning before (call_of e) (Refused r) after → Performed meaning before e (Err r) after
+  pub refused_call : (e : Event) (r : Refusal) → Called meaning before (call_of e) (Refused r) after → Performed meaning before e (Err r) after
   refused_call e r s = one_call (λ t. session.refused {e = e} t) s
 
 -- calls that a line made, after those that led to the broker

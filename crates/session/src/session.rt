@@ -2,7 +2,7 @@
 use broker::Broker;
 
 mod asks;
-mod events;
+mod calls;
 mod lines;
 mod report;
 
