@@ -7,8 +7,8 @@ use Rattle.session.proofs.printed.fields.write_field.Goals as goal
 pub returns : goal.returns
 returns c =
     let line = field c.args.word.now c.args.n in
-    let short : length line ≤ 128 = simp length-append (omega (arith, c.add-number.ensures.short)) in
+    let short : length line ≤ 128 = simp length-append (omega (arith, c.add_number.ensures.short)) in
     record {
       short = short;
-      placed = placed_whole line (first_piece line c.new-text.ensures c.add-number.ensures.text) short c.write.ensures;
+      placed = placed_whole line (first_piece line c.new-text.ensures c.add_number.ensures.text) short c.write.ensures;
     }

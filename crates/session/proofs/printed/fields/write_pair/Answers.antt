@@ -8,6 +8,6 @@ pub returns : goal.returns
 returns c =
     let one = field c.args.word.now c.args.n in
     let two = field c.args.then.now c.args.m in
-    let short : length (one ++ two) ≤ 128 = simp length-append (omega (arith, c.add-number.ensures.short, c.add-number-2.ensures.short)) in
-    let line = grown one two (first_piece one c.new-text.ensures c.add-number.ensures.text) c.add-number-2.ensures.text in
+    let short : length (one ++ two) ≤ 128 = simp length-append (omega (arith, c.add_number.ensures.short, c.add_number-2.ensures.short)) in
+    let line = grown one two (first_piece one c.new-text.ensures c.add_number.ensures.text) c.add_number-2.ensures.text in
     record { short = short; placed = placed_whole (one ++ two) line short c.write.ensures }

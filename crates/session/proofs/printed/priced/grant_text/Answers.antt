@@ -11,11 +11,11 @@ returns c =
     let frame = field (codes " frame ") grant.frame in
     let former = field (codes " from ") c.args.from in
     let paying = priced (codes " paying ") grant.paying in
-    let head = first_piece client c.new-text.ensures c.add-number.ensures.text in
-    let place = grown client frame head c.add-number-2.ensures.text in
-    let origin = grown (client ++ frame) former place c.add-number-3.ensures.text in
+    let head = first_piece client c.new-text.ensures c.add_number.ensures.text in
+    let place = grown client frame head c.add_number-2.ensures.text in
+    let origin = grown (client ++ frame) former place c.add_number-3.ensures.text in
     record {
-      text = grown (client ++ frame ++ former) paying origin c.add-quote.ensures.text;
+      text = grown (client ++ frame ++ former) paying origin c.add_quote.ensures.text;
       short = granted_short (decimal grant.client) (decimal grant.frame) (decimal c.args.from) (quoted grant.paying)
-          c.add-number.ensures.short c.add-number-2.ensures.short c.add-number-3.ensures.short c.add-quote.ensures.short;
+          c.add_number.ensures.short c.add_number-2.ensures.short c.add_number-3.ensures.short c.add_quote.ensures.short;
     }

@@ -9,6 +9,6 @@ returns c =
     let client = field (codes "client ") c.args.client in
     let frames = field (codes " holds ") c.args.frames in
     record {
-      text = grown client frames (first_piece client c.new-text.ensures c.add-number.ensures.text) c.add-number-2.ensures.text;
-      short = holding_short (decimal c.args.client) (decimal c.args.frames) c.add-number.ensures.short c.add-number-2.ensures.short;
+      text = grown client frames (first_piece client c.new-text.ensures c.add_number.ensures.text) c.add_number-2.ensures.text;
+      short = holding_short (decimal c.args.client) (decimal c.args.frames) c.add_number.ensures.short c.add_number-2.ensures.short;
     }

@@ -8,6 +8,6 @@ pub returns : goal.returns
 returns c =
     let front = granted c.args.grant c.args.from in
     let over = priced (codes " over ") c.args.over in
-    let short = quote_fits front (codes " over ") (quoted c.args.over) c.grant-text-text.ensures.short (omega arith) c.add-quote.ensures.short in
-    let line = grown front over c.grant-text-text.ensures.text c.add-quote.ensures.text in
+    let short = quote_fits front (codes " over ") (quoted c.args.over) c.grant_text-text.ensures.short (omega arith) c.add_quote.ensures.short in
+    let line = grown front over c.grant_text-text.ensures.text c.add_quote.ensures.text in
     record { short = short; placed = placed_whole (front ++ over) line short c.write.ensures }

@@ -8,6 +8,6 @@ pub returns : goal.returns
 returns c =
     let front = holding c.args.client c.args.frames in
     let none = codes " price -" in
-    let short : length (front ++ none) ≤ 128 = omega (arith, length-append front none, c.holding-text-text.ensures.short) in
-    let line = grown front none c.holding-text-text.ensures.text c.bytes.ensures in
+    let short : length (front ++ none) ≤ 128 = omega (arith, length-append front none, c.holding_text-text.ensures.short) in
+    let line = grown front none c.holding_text-text.ensures.text c.bytes.ensures in
     record { short = short; placed = placed_whole (front ++ none) line short c.write.ensures }

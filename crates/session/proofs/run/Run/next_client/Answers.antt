@@ -6,5 +6,5 @@ returns-in-None g c = none_next g.P.Price.meaning c.args.self.now c.args.after c
 
 pub returns-in-Some : goal.returns-in-Some
 returns-in-Some g c =
-    let r = c.report-client.ensures in
-    client_next g.P.Price.meaning c.args.self.now c.report-client.new.self c.report-client.result c.args.after c.in-Some.client c.requires c.in-Some.ensures r.session r.stage r.printed
+    let r = c.report_client.ensures in
+    client_next g.P.Price.meaning c.args.self.now c.report_client.new.self c.report_client.result c.args.after c.in-Some.client c.requires c.in-Some.ensures r.session r.stage r.printed
