@@ -1,5 +1,5 @@
 -- Asks: who is outbid, and where a frame comes from.
-use Rattle.std.proofs.Common.{◌≡◌, ℕ, ◌+◌, ◌<◌, ◌≤◌, true, false, ◌≢◌, List, [], ◌∷◌, ◌++◌, Some, None, sym, refl, ap, ◌∙◌, subst, inl, inr, arith}
+use Rattle.std.proofs.Common.{◌≡◌, ℕ, ◌+◌, ◌<◌, ◌≤◌, true, false, ◌≢◌, [], Some, None, sym, refl, subst, inl, inr, arith}
 use Rattle.rules.specs.Offers.{Meaning, Lawful, Valid}
 use Rattle.rules.specs.Refusals.{First, Clear}
 use Rattle.rules.specs.declared.refusal.Refusal.TheVariants.{Outbid}
@@ -15,7 +15,7 @@ use Rattle.price.specs.Keys.{Keyed, KeyOf, outranks, leads}
 use Rattle.broker.specs.Bids.{offer_at, listed}
 use Rattle.broker.specs.View.{Broker, view, Kept}
 use Rattle.broker.proofs.Bids.{Next, outbid_by_nobody, may_take_below, may_take_above, is_outbid, not_itself}
-use Rattle.broker.proofs.Noted.{noted_holding, noted_least, noted_key, noted_made, noted_few}
+use Rattle.broker.proofs.Noted.{noted_holding, noted_least, noted_key, noted_made}
 
 module _ {P : Type 0} (meaning : P → Meaning) (b : Broker P) (c : ℕ) (clear : Clear (asker_entries (view b) c)) (free : (view b).free ≡ []) where
   abbrev m : Meaning

@@ -1,5 +1,5 @@
 -- The clock, one ended estimate after another.
-use Rattle.std.proofs.Common.{◌≡◌, ℕ, ◌+◌, ◌<◌, ◌≤◌, ◌≢◌, Some, None, Option, sym, refl, ap, ◌∙◌, subst, arith}
+use Rattle.std.proofs.Common.{◌≡◌, ℕ, ◌+◌, ◌<◌, ◌≤◌, Some, None, Option, sym, ap, ◌∙◌, subst, arith}
 use Rattle.rules.specs.Offers.{Meaning, Lawful}
 use Rattle.laws.specs.ByNumber.{total, put}
 use Rattle.laws.specs.Broker as rules
@@ -8,9 +8,9 @@ use Rattle.laws.proofs.Puts.{put_off}
 use Rattle.pool.specs.declared.pool.Pool.{Pool}
 use Rattle.pool.specs.View as pool
 use Rattle.pool.specs.Clocks.{Clocked, Dropped, at_tick}
-use Rattle.pool.proofs.Clocks.{clocked_none, clocked_one, clocked_falls, few_end, clock_step}
+use Rattle.pool.proofs.Clocks.{clocked_one, clocked_falls, few_end, clock_step}
 use Rattle.broker.specs.Bids.{listed}
-use Rattle.broker.specs.View.{Broker, view, Kept, Dropping, Relisted, Called}
+use Rattle.broker.specs.View.{Broker, view, Dropping, Relisted, Called}
 use Rattle.broker.proofs.Bids.{same_listed}
 use Rattle.broker.proofs.Steps.{called, relisted_one}
 

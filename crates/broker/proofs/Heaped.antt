@@ -1,5 +1,5 @@
 -- The heap of bids as a map.
-use Rattle.std.proofs.Common.{◌≡◌, ℕ, eqb, List, None, Option, arith}
+use Rattle.std.proofs.Common.{◌≡◌, ℕ, List, None, arith}
 use Rattle.std.proofs.lemmas.Bool.Decides.{nat_tests}
 use Rattle.heap.specs.declared.records.Record.{Record}
 use Rattle.heap.specs.Heaps.{keys, is_in}

@@ -1,8 +1,7 @@
 -- A call on one client leaves the others.
-use Rattle.std.proofs.Common.{◌≡◌, ℕ, ◌<◌, ◌≢◌, [], ◌∷◌, length, Some, None, Option, sym, refl, ap, ◌∙◌, subst, arith}
+use Rattle.std.proofs.Common.{◌≡◌, ℕ, ◌<◌, ◌≢◌, [], length, Some, None, Option, sym, refl, ap, ◌∙◌, subst, arith}
 use Rattle.rules.specs.Offers.{Meaning}
 use Rattle.rules.specs.declared.refusal.Refusal.{Refusal}
-use Rattle.laws.specs.ByNumber.{put}
 use Rattle.laws.specs.Broker.{Broker, Client, SlipNumbers, stack_of, terms_of}
 use Rattle.laws.specs.Division.{terms}
 use Rattle.laws.specs.Calls

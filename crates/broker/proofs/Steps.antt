@@ -1,10 +1,10 @@
 -- A step carries every history on, and keeps the list of bids.
-use Rattle.std.proofs.Common.{◌≡◌, ℕ, ◌≢◌, List, ◌∷◌, sym, refl, ap, ◌∙◌, subst, inl, inr}
+use Rattle.std.proofs.Common.{◌≡◌, ℕ, ◌≢◌, List, ◌∷◌, sym, refl, ◌∙◌, subst, inl, inr}
 use Rattle.std.proofs.lemmas.Bool.{cases_eq}
 use Rattle.rules.specs.Offers.{Meaning, Lawful}
 use Rattle.rules.specs.declared.refusal.Refusal.{Refusal}
 use Rattle.laws.specs.Broker as rules
-use Rattle.laws.specs.Calls.{Call, Answer, Refused, Step, refused, RefusedBy}
+use Rattle.laws.specs.Calls.{Call, Answer, Refused, Step}
 use Rattle.laws.specs.Histories.{Event, event, Run, then}
 use Rattle.laws.proofs.Guaranteed.{histories_keep_guarantees}
 use Rattle.pool.specs.declared.pool.Pool.{Pool}

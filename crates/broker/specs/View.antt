@@ -20,7 +20,7 @@
 -- Ended        so were all of them
 -- MayAsk       who is not refused may ask
 -- Sourced      where the frame of an ask comes from, or why there is none
-use Rattle.std.specs.Prelude.{◌≡◌, ℕ, false, ◌≢◌, List, [], ◌∷◌, Some, None, Ok, Err, Option, Result}
+use Rattle.std.specs.Prelude.{◌≡◌, ℕ, false, ◌≢◌, List, [], ◌∷◌, Some, Ok, Err, Result}
 use Rattle.rules.specs.Offers.{Meaning}
 use Rattle.rules.specs.Refusals.{Clear, Replies}
 use Rattle.rules.specs.declared.refusal.Refusal.{Refusal}

@@ -1,5 +1,7 @@
 //! Checks an event file before the box reads it: prints each malformed line's fault, and at the end how many lines
 //! and how many events there are.
+#![tactic(auto)]
+
 mod report;
 
 use events::{fill, input_buffer};

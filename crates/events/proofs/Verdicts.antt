@@ -1,9 +1,8 @@
 -- Every line has one verdict at most.
-use Rattle.std.proofs.Common.{◌≡◌, ℕ, zero, suc, ◌+◌, ◌^◌, ◌<◌, ◌≤◌, Bool, true, false, cond, eqb, ltb, List, [], ◌∷◌, ◌++◌, length, get_or, Ok, Err, decimal, Result, sym, refl, ap, ◌∙◌, subst, ⊎_elim, append_assoc, append-nil, arith}
+use Rattle.std.proofs.Common.{◌≡◌, ℕ, zero, suc, ◌+◌, ◌^◌, ◌<◌, ◌≤◌, true, false, cond, eqb, ltb, List, [], ◌∷◌, ◌++◌, length, get_or, Ok, Err, decimal, Result, sym, refl, ap, ◌∙◌, subst, ⊎_elim, append_assoc, append-nil, arith}
 use Rattle.std.specs.List.{flat_map, AllByRecursion}
 use Rattle.std.proofs.lemmas.Fmt.{decimal_injective}
 use Rattle.std.proofs.lemmas.Bool.Decides.{nat_tests, eqb_tells}
-use Rattle.std.proofs.str.Laws.{order}
 use Rattle.rules.specs.declared.refusal.Fault.{Fault}
 use Rattle.rules.specs.declared.refusal.FaultKind.{FaultKind}
 use Rattle.rules.specs.declared.refusal.FaultKind.TheVariants as fault
@@ -12,7 +11,7 @@ use Rattle.rules.specs.declared.refusal.Refusal.TheVariants.{Malformed}
 use Rattle.events.specs.declared.word.Due.TheVariants as due
 use Rattle.events.specs.Grammar.{EventKind, letter, count, NoDigit, spaced, spelled, Missing}
 use Rattle.events.specs.Grammar as kinds
-use Rattle.events.specs.Written.{Event, Start, Admit, Ask, HandBack, Leave, Estimate, Clock, kind, numbers, Sized, written}
+use Rattle.events.specs.Written.{Event, Start, Admit, Ask, HandBack, Leave, Estimate, Clock, kind, numbers, written}
 use Rattle.events.specs.Faults.{Begins, Ended, FirstFault, no_letter, no_space, no_number, no_end, Verdict, fault_at}
 use Rattle.events.proofs.Figures.{decimal_digits, one_run}
 

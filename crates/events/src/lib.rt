@@ -3,6 +3,8 @@
 //! A line is a capital letter and its numbers, each after one space. `read` answers the event that a line says, or
 //! the first fault from the left; `Event::write` puts the line of an event into a lent buffer; `Lines` cuts an input
 //! into its lines.
+#![tactic(auto)]
+
 mod event;
 mod input;
 mod line_fault;

@@ -1,4 +1,6 @@
 //! Event lines at their edges: what is read, what is refused and where, and what is written.
+#![tactic(auto)]
+
 #[cfg(test)]
 mod tests {
     use events::{Event, LineFault, Lines, read};

@@ -5,6 +5,8 @@
 //! A change costs the logarithm of that number, allocates nothing and moves no key.
 //!
 //! It is the binary heap of Williams (Algorithm 232, Heapsort, 1964), with each owner's place noted beside its key.
+#![tactic(auto)]
+
 mod calls;
 mod order;
 mod reads;

@@ -1,5 +1,7 @@
 //! What a broker is, what it guarantees over whole histories, and why. The definitions stand in specs/ and the proofs in
 //! proofs/. Each function here does nothing: its contract is a law.
+#![tactic(auto)]
+
 ghost use Rattle.laws.specs.Laws.{DivisionIsUnique, HistoriesKeepGuarantees, FamiliesKeepGuarantees, FramesLieOnce, OneAnswer, EveryCallIsAnswered, ListsRise, RestIsReached, LowestPayerIsFound};
 ghost use Rattle.laws.specs.Cases.{WorkedExamples};
 

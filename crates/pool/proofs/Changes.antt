@@ -1,8 +1,6 @@
 -- Frames handed back, clients that leave, and estimates.
-use Rattle.std.proofs.Common.{◌≡◌, ℕ, zero, suc, ◌+◌, ◌-◌, ◌<◌, ◌≤◌, ◌≢◌, List, [], ◌∷◌, ◌++◌, reverse, length, get_or, set, Some, None, Option, sym, refl, ap, ◌∙◌, subst, inl, inr, arith}
+use Rattle.std.proofs.Common.{◌≡◌, ℕ, zero, suc, ◌-◌, ◌<◌, ◌≢◌, List, [], ◌∷◌, ◌++◌, length, get_or, set, Some, None, Option, sym, refl, ap, ◌∙◌, subst, inl, inr, arith}
 use mathlib.Core.Path.{fun_ext}
-use Rattle.std.proofs.lemmas.Bool.{cases_eq}
-use Rattle.rules.specs.declared.call.Estimate.{Estimate}
 use Rattle.rules.specs.Offers.{Meaning}
 use Rattle.rules.specs.Refusals.{Entry, entry, First}
 use Rattle.rules.specs.declared.refusal.Refusal.{Refusal}
@@ -16,7 +14,7 @@ use Rattle.laws.proofs.Puts.{put_at, put_off, each_but}
 use Rattle.ledger.specs.declared.ledger.Ledger.{Ledger}
 use Rattle.ledger.specs.Ledgers.{stack_of}
 use Rattle.ledger.specs.Stacks.{Moved, Freed}
-use Rattle.pool.specs.Members.{Member, in_ranges, InRanges, NoStray}
+use Rattle.pool.specs.Members.{Member, NoStray}
 use Rattle.pool.specs.View.{client_of}
 use Rattle.pool.proofs.Views.{clients_of, seen, same_parts}
 use Rattle.pool.proofs.Tables.{set_each, set_clients}

@@ -1,5 +1,5 @@
 -- Frames granted: from the free stack, or from another client.
-use Rattle.std.proofs.Common.{◌≡◌, ℕ, zero, suc, ◌+◌, ◌%◌, ◌^◌, ◌<◌, ◌≤◌, ◌≢◌, List, [], ◌∷◌, length, Some, None, Option, sym, refl, ap, ◌∙◌, subst, inl, inr, arith}
+use Rattle.std.proofs.Common.{◌≡◌, ℕ, zero, suc, ◌+◌, ◌%◌, ◌^◌, ◌<◌, ◌≢◌, List, [], ◌∷◌, length, Some, None, Option, sym, refl, ap, ◌∙◌, subst, inl, inr, arith}
 use mathlib.Core.Path.{fun_ext}
 use Rattle.std.proofs.lemmas.List.{get_or_past}
 use Rattle.std.proofs.lemmas.Bool.{cases_lt}
@@ -7,8 +7,8 @@ use Rattle.rules.specs.Offers.{Meaning}
 use Rattle.laws.specs.ByNumber.{Numbered, put, by_number}
 use Rattle.laws.specs.Broker as rules
 use Rattle.laws.specs.Broker.{SlipNumbers, MayTake}
-use Rattle.laws.specs.Calls.{Ask, Granted, Step, granted_free, granted_from, granted, slip, with_stack, IsClear, Absent}
-use Rattle.laws.proofs.Kept.{none_some, inside}
+use Rattle.laws.specs.Calls.{Ask, Granted, Step, granted_free, granted_from, slip, IsClear}
+use Rattle.laws.proofs.Kept.{none_some}
 use Rattle.laws.proofs.Puts.{put_at, put_off, each_but_two}
 use Rattle.ledger.specs.declared.ledger.Ledger.{Ledger}
 use Rattle.ledger.specs.Ledgers.{stack_of}

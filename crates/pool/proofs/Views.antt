@@ -1,11 +1,11 @@
 -- Equal parts make equal views, and a call that leaves the view as it was may be a refused one.
-use Rattle.std.proofs.Common.{◌≡◌, ℕ, zero, suc, List, [], ◌∷◌, get_or, Some, None, Option, sym, refl, ap, subst}
+use Rattle.std.proofs.Common.{◌≡◌, ℕ, zero, suc, List, get_or, Some, None, Option, sym, refl, ap, subst}
 use mathlib.Core.Path.{fun_ext}
 use Rattle.rules.specs.Offers.{Meaning}
 use Rattle.rules.specs.declared.refusal.Refusal.{Refusal}
 use Rattle.laws.specs.Broker as rules
 use Rattle.laws.specs.Broker.{SlipNumbers}
-use Rattle.laws.specs.Calls.{Call, Answer, Refused, Step, refused, RefusedBy}
+use Rattle.laws.specs.Calls.{Call, Refused, Step, refused, RefusedBy}
 use Rattle.laws.specs.ByNumber.{by_number}
 use Rattle.ledger.specs.declared.ledger.Ledger.{Ledger}
 use Rattle.ledger.specs.Ledgers.{stack_of}

@@ -2,6 +2,8 @@
 //!
 //! The calls that compare no prices are whole here. An ask is here in two parts, who may ask and the grant of a frame, and
 //! so is the clock, one ended estimate at a time; a broker adds whose frame it is, and tells its bids anew.
+#![tactic(auto)]
+
 mod ends;
 mod member;
 mod pool;

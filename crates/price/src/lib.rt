@@ -1,5 +1,7 @@
 //! Prices: what a client's offer is worth under each, proved lawful; the rank of bids under any of them; and the tariff
 //! sheet of the taxed price.
+#![tactic(auto)]
+
 mod class;
 mod either;
 mod key;

@@ -1,5 +1,5 @@
 -- What clients hold, and which questions are answered.
-use Rattle.std.proofs.Common.{◌≡◌, ℕ, ◌<◌, ◌≤◌, List, length, Some, None, Option, sym, refl, ap, ◌∙◌, subst, inl, inr, arith}
+use Rattle.std.proofs.Common.{◌≡◌, ℕ, ◌<◌, ◌≤◌, length, Some, None, Option, refl, ap, inl, inr, arith}
 use Rattle.rules.specs.Refusals.{Clear, Outside}
 use Rattle.laws.specs.ByNumber.{Numbered, by_number}
 use Rattle.laws.specs.Broker as rules

@@ -1,13 +1,12 @@
 -- One thing is printed of an input.
-use Rattle.std.proofs.Common.{◌≡◌, ℕ, ◌+◌, ◌<◌, List, [], ◌∷◌, length, Some, Ok, Err, Result, sym, refl, ap, ◌∙◌, subst, inl, inr, arith}
+use Rattle.std.proofs.Common.{◌≡◌, ℕ, ◌+◌, List, ◌∷◌, length, Some, Ok, Err, Result, sym, refl, ap, ◌∙◌, subst, inl, inr, arith}
 use Rattle.std.proofs.lemmas.Bool.{cases_lt}
 use Rattle.rules.specs.Offers.{Meaning}
 use Rattle.rules.specs.declared.refusal.Refusal.{Refusal}
 use Rattle.events.specs.declared.event.Event.{Event}
-use Rattle.events.specs.Faults.{Verdict}
 use Rattle.events.proofs.Verdicts.{one_verdict}
 use Rattle.laws.specs.Broker.{Broker, SlipNumbers}
-use Rattle.laws.specs.Calls.{Call, Deliver, Answer, Done, Granted, Refused, Step}
+use Rattle.laws.specs.Calls.{Call, Deliver, Answer, Done, Refused, Step}
 use Rattle.laws.specs.Histories as history
 use Rattle.laws.specs.Histories.{IsAccepted}
 use Rattle.laws.proofs.One.{one_answer}

@@ -1,5 +1,5 @@
 -- What a run prints, value by value.
-use Rattle.std.proofs.Common.{◌≡◌, ℕ, zero, suc, ◌+◌, ◌-◌, ◌<◌, List, [], ◌∷◌, ◌++◌, length, take, Some, None, Ok, Err, Option, Result, sym, refl, ap, ◌∙◌, subst, inl, arith}
+use Rattle.std.proofs.Common.{◌≡◌, ℕ, zero, suc, ◌+◌, ◌-◌, ◌<◌, List, [], ◌∷◌, length, take, Some, None, Ok, Err, Option, Result, sym, refl, ap, ◌∙◌, subst, inl, arith}
 use Rattle.std.proofs.lemmas.List.{take-take}
 use Rattle.rules.specs.Offers.{Meaning}
 use Rattle.rules.specs.Refusals.{Replies, Outside}
@@ -10,7 +10,6 @@ use Rattle.events.specs.Input as input
 use Rattle.events.proofs.Cutting.{cuts_on}
 use Rattle.laws.specs.Broker as rules
 use Rattle.laws.specs.Broker.{holding}
-use Rattle.laws.specs.Histories as history
 use Rattle.laws.specs.Questions.{client_entries, price_entries, price_at}
 use Rattle.laws.proofs.One.{first_or_clear}
 use Rattle.pool.specs.declared.pool.Pool.{Pool}

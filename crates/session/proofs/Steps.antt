@@ -1,5 +1,5 @@
 -- Calls as the events of lines.
-use Rattle.std.proofs.Common.{◌≡◌, ℕ, List, [], ◌∷◌, ◌++◌, take, Ok, Err, Result, sym, refl, ap, ◌∙◌, subst}
+use Rattle.std.proofs.Common.{◌≡◌, ℕ, List, [], ◌++◌, take, Ok, Err, Result, sym, refl, subst}
 use Rattle.rules.specs.Offers.{Meaning}
 use Rattle.rules.specs.declared.refusal.Refusal.{Refusal}
 use Rattle.events.specs.declared.event.Event.{Event}
@@ -9,7 +9,7 @@ use Rattle.laws.specs.Calls.{Call, Answer, Refused, Step}
 use Rattle.laws.specs.Histories as history
 use Rattle.laws.specs.Histories.{Run, then}
 use Rattle.broker.specs.declared.broker.Broker.{Broker}
-use Rattle.broker.specs.View.{view, Kept, Led, Stepped, KeepsBids, Called}
+use Rattle.broker.specs.View.{view, Kept, Called}
 use Rattle.session.specs.declared.printed.Printed.{Printed}
 use Rattle.session.specs.Session.{call_of, Performs, LinePerforms, Performed, Judged}
 use Rattle.session.specs.Session as session

@@ -19,7 +19,6 @@ use Rattle.rules.specs.Offers.{Meaning}
 use Rattle.events.specs.Input.{Cut}
 use Rattle.laws.specs.Broker as rules
 use Rattle.laws.specs.Broker.{holding}
-use Rattle.laws.specs.Calls.{Absent}
 use Rattle.laws.specs.Histories as history
 use Rattle.laws.specs.Questions.{price_at}
 use Rattle.pool.specs.View.{NextClient}

@@ -21,7 +21,7 @@ use Rattle.events.specs.declared.event.Event.TheVariants as event
 use Rattle.events.specs.Faults.{Verdict}
 use Rattle.laws.specs.Broker as rules
 use Rattle.laws.specs.Broker.{SlipNumbers, holding}
-use Rattle.laws.specs.Calls.{Call, Start, Admit, Ask, Deliver, HandBack, Leave, SetEstimate, SetClock, Answer, Done, Granted, Frame, Count, Refused, Step}
+use Rattle.laws.specs.Calls.{Call, Start, Admit, Ask, Deliver, HandBack, Leave, SetEstimate, SetClock, Done, Granted, Frame, Count, Refused, Step}
 use Rattle.laws.specs.Histories as history
 use Rattle.laws.specs.Questions.{price_at}
 use Rattle.broker.specs.declared.broker.Broker.{Broker}

@@ -1,5 +1,7 @@
 //! A broker's program: one event line after another is performed on a broker, and what is printed of each is a value that
 //! is written into a lent buffer.
+#![tactic(auto)]
+
 mod print;
 mod printed;
 mod run;

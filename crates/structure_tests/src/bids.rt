@@ -1,5 +1,5 @@
 //! Keys of two fields, compared one after the other.
-ghost use Rattle.std.specs.Prelude.{if_then_else_, nat_eq, nat_le, nat_lt};
+ghost use Rattle.std.specs.Prelude.{if◌then◌else◌, nat_eq, nat_le, nat_lt};
 ghost use Rattle.std.proofs.Common.{rules};
 
 use heap::{Order, Record};

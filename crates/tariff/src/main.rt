@@ -1,5 +1,7 @@
 //! Prints a tariff sheet of the taxed price before an office buys: `tariff RATE ACTIVE LENGTH`, where ACTIVE is an
 //! active count or `-` for none. A line is a count of frames and the bottom there.
+#![tactic(auto)]
+
 mod fault;
 mod listing;
 mod request;

@@ -1,4 +1,4 @@
-use Rattle.std.proofs.Common.{◌≡◌, ℕ, ◌+◌, ◌≤◌, List, length}
+use Rattle.std.proofs.Common.{length}
 use Rattle.check_lines.proofs.Sofar.{Sofar}
 use Rattle.check_lines.proofs.report.report.Given as goal
 

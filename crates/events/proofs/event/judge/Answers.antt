@@ -1,7 +1,6 @@
-use Rattle.std.proofs.Common.{◌≡◌, length, take, refl, ap, ◌∙◌, subst, arith}
+use Rattle.std.proofs.Common.{ap, ◌∙◌, arith}
 use Rattle.std.proofs.lemmas.List.{length-take-le}
 use Rattle.std.proofs.lemmas.Result.{err_from_is_err_and}
-use Rattle.events.specs.Faults.{FirstFault}
 use Rattle.events.specs.Grammar.{count}
 use Rattle.events.proofs.Words.{count_few, end_fault}
 use Rattle.events.proofs.event.judge.Goals as goal

@@ -11,5 +11,5 @@ returns g c =
     let m = g.P.Price.meaning b.price in
     let q = c.admit.new.self in
     let call = kept_called g.P.Price.meaning g.P.Price.lawful b q (c.admit.ensures m)
-        (admitted_listed m (view b) (listed b.payers) c.args.client c.args.shares c.args.class c.args.minimum c.args.maximum _ (pool.view q) (c.admit.ensures m)) in
+    (admitted_listed m (view b) (listed b.payers) c.args.client c.args.shares c.args.class c.args.minimum c.args.maximum _ (pool.view q) (c.admit.ensures m)) in
     record { step = unlooked (λ none. none) call; kept = call.kept }

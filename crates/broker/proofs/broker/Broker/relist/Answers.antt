@@ -1,10 +1,10 @@
-use Rattle.std.proofs.Common.{◌≡◌, ℕ, ◌<◌, Some, None, sym, ◌∙◌, subst, arith}
+use Rattle.std.proofs.Common.{ℕ, Some, None, sym, ◌∙◌, subst, arith}
 use Rattle.std.proofs.lemmas.Bool.{ltb-true, ltb-false}
 use Rattle.laws.specs.Division.{bid_of}
 use Rattle.laws.specs.Broker.{present, Beyond}
 use Rattle.price.specs.Keys.{KeyOf}
 use Rattle.broker.specs.View.{view}
-use Rattle.broker.proofs.Noted.{noted_holding, noted_least, noted_key, noted_fits, noted_owner, noted_few, refused_not_beyond, anew}
+use Rattle.broker.proofs.Noted.{noted_holding, noted_least, noted_key, noted_fits, noted_few, refused_not_beyond, anew}
 use Rattle.broker.proofs.broker.Broker.relist.Goals as goal
 use Rattle.broker.proofs.broker.Broker.relist.Goals.{in-Ok+else-is_beyond, in_default}
 

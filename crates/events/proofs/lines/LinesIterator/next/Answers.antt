@@ -1,4 +1,4 @@
-use Rattle.std.proofs.Common.{◌≡◌, ◌<◌, length, take, arith, rules, true-eqb, false-eqb}
+use Rattle.std.proofs.Common.{◌<◌, length, take, arith, rules, true-eqb, false-eqb}
 use Rattle.std.proofs.lemmas.List.{nil_from_length}
 use Rattle.events.proofs.Cutting.{ended_line, last_line, line_head, rest_shorter}
 use Rattle.events.proofs.lines.LinesIterator.next.Goals as goal

@@ -1,4 +1,4 @@
-use Rattle.std.proofs.Common.{◌≡◌, ◌-◌, ◌<◌, length, refl, ◌∙◌, arith, length-set}
+use Rattle.std.proofs.Common.{◌-◌, ◌<◌, length, refl, ◌∙◌, arith, length-set}
 use Rattle.pool.proofs.Tables.{set_ranges, set_stray, noted_true}
 use Rattle.pool.proofs.Noted.{set_noted}
 use Rattle.pool.proofs.Drops.{drop_one}

@@ -1,4 +1,4 @@
-use Rattle.std.proofs.Common.{◌≡◌, ◌≤◌, Some, sym, refl, ap, subst, arith, rules}
+use Rattle.std.proofs.Common.{Some, sym, refl, ap, subst}
 use Rattle.laws.specs.Broker.{SlipNumbers, Broker}
 use Rattle.laws.specs.Calls.{Ask, Granted, Step}
 use Rattle.ledger.specs.Ledgers.{stack_of}

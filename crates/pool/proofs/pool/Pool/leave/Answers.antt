@@ -1,4 +1,4 @@
-use Rattle.std.proofs.Common.{◌≡◌, suc, ◌-◌, ◌<◌, length, None, refl, ◌∙◌, arith, length-set}
+use Rattle.std.proofs.Common.{◌-◌, ◌<◌, length, None, refl, ◌∙◌, arith, length-set}
 use Rattle.std.proofs.lemmas.Result.{err_from_is_err_and}
 use Rattle.laws.specs.Calls.{refused}
 use Rattle.laws.proofs.Kept.{inside}

@@ -1,4 +1,4 @@
-use Rattle.std.proofs.Common.{arith, rules}
+use Rattle.std.proofs.Common.{arith}
 use Rattle.laws.proofs.Kept.{inside}
 use Rattle.ledger.specs.Ledgers.{stack_of}
 use Rattle.ledger.proofs.Ledgers.{few_frames}

@@ -1,4 +1,4 @@
-use Rattle.std.proofs.Common.{refl, ap, inl, inr, arith, rules}
+use Rattle.std.proofs.Common.{ap, inl, inr, arith, rules}
 use Rattle.laws.specs.Calls.{refused}
 use Rattle.pool.proofs.Views.{seen, refused_step}
 use Rattle.pool.proofs.Starts.{start_step}

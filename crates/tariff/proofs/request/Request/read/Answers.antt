@@ -1,6 +1,6 @@
-use Rattle.std.proofs.Common.{◌≡◌, ℕ, ◌<◌, List, [], map, length, get_or, string_bytes, String, sym, refl, ap, ◌∙◌, subst, arith}
+use Rattle.std.proofs.Common.{◌≡◌, ℕ, ◌<◌, List, [], map, length, get_or, string_bytes, String, sym, refl, ap, ◌∙◌, arith}
 use Rattle.std.proofs.lemmas.List.{length-map, get_or-map}
-use Rattle.tariff.specs.Faults.{word, ReadsThree}
+use Rattle.tariff.specs.Faults.{word}
 use Rattle.tariff.proofs.request.Request.read.Goals as goal
 
 -- the word at a place is what the text there says

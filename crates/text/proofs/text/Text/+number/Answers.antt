@@ -1,6 +1,6 @@
-use Rattle.std.proofs.Common.{◌≡◌, ◌/◌, ◌++◌, decimal, ap, ◌∙◌, arith}
+use Rattle.std.proofs.Common.{◌/◌, ap, ◌∙◌, arith}
 use Rattle.std.proofs.lemmas.Fmt.{length-decimal-le}
-use Rattle.text.specs.Texts.{spelt, cut}
+use Rattle.text.specs.Texts.{spelt}
 use Rattle.text.proofs.Cuts.{number_kept, digit_kept}
 use Rattle.text.proofs.text.Text.+number.Goals as goal
 use Rattle.text.proofs.text.Text.+number.Goals.{then-tens-ge10, else-tens-ge10, then-tens-ge1, else-tens-ge1}

@@ -1,4 +1,3 @@
-use Rattle.std.proofs.Common.{arith}
 use Rattle.text.proofs.Cuts.{byte_kept, byte_dropped}
 use Rattle.text.proofs.text.Text.byte.Goals as goal
 
