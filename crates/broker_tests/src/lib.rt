@@ -1,5 +1,7 @@
 //! The broker called from without: under a price of the tests' own, at the ends of all ranges, while a passage is open,
 //! and in the sample sessions. They have a crate of their own, since a crate with tests is proved twice.
+#![tactic(auto)]
+
 #[cfg(test)]
 mod calls;
 #[cfg(test)]

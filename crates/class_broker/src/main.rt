@@ -1,5 +1,7 @@
 //! Runs a broker under the class price over the taxed price: reads an input of event lines, and prints a line for each, and
 //! the end report.
+#![tactic(auto)]
+
 use events::{fill, input_buffer};
 use price::{ClassPrice, TaxedPrice};
 use session::{Run, print_all};

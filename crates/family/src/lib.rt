@@ -1,4 +1,6 @@
 //! Several brokers, each under a price of its own, and one list of orders for them.
+#![tactic(auto)]
+
 mod orders;
 mod rehearsal;
 

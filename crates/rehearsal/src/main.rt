@@ -1,5 +1,7 @@
 //! Plays a written week of calls on three brokers at once, under the share price, the taxed price and the class price, and
 //! prints each answer and where each broker comes to rest.
+#![tactic(auto)]
+
 mod play;
 mod show;
 mod week;

@@ -1,4 +1,6 @@
 //! Runs a broker under the share price: reads an input of event lines, and prints a line for each, and the end report.
+#![tactic(auto)]
+
 use events::{fill, input_buffer};
 use price::SharePrice;
 use session::{Run, print_all};
