@@ -6,7 +6,7 @@
 Port.py respells only the names that a library had spelled alike. This turns the dashes in every other name that a file of
 specs/ or proofs/ declares, and nothing else: names of the code, names that the checker makes of the code (the goals of a
 function and what stands in them), names of the library, strings and files keep their spelling. A name whose new spelling
-would fall together with another one is told and left.
+stands already elsewhere is turned too, and told, to be looked at.
 """
 
 import pathlib

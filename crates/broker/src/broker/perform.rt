@@ -8,40 +8,40 @@ use price::Price;
 use rules::{Answer, Call, Refusal, SlipNumbers};
 
 // What a call is answered that answers nothing more where it is accepted.
-fn answer_done(res: Result<(), Refusal>) -> Answer
-    ensures { result ≡ done res }
+fn answer_done(outcome: Result<(), Refusal>) -> Answer
+    ensures { result ≡ done outcome }
 {
-    match res {
+    match outcome {
         Ok(()) => Answer::Done,
         Err(refusal) => Answer::Refused(refusal),
     }
 }
 
 // What an ask is answered.
-fn answer_granted(res: Result<SlipNumbers, Refusal>) -> Answer
-    ensures { result ≡ granted res }
+fn answer_granted(outcome: Result<SlipNumbers, Refusal>) -> Answer
+    ensures { result ≡ granted outcome }
 {
-    match res {
+    match outcome {
         Ok(slip) => Answer::Granted(slip),
         Err(refusal) => Answer::Refused(refusal),
     }
 }
 
 // What a hand-back is answered.
-fn answer_frame(res: Result<u32, Refusal>) -> Answer
-    ensures { result ≡ handed res }
+fn answer_frame(outcome: Result<u32, Refusal>) -> Answer
+    ensures { result ≡ handed outcome }
 {
-    match res {
+    match outcome {
         Ok(frame) => Answer::Frame(frame),
         Err(refusal) => Answer::Refused(refusal),
     }
 }
 
 // What a call is answered that answers a count.
-fn answer_count(res: Result<u32, Refusal>) -> Answer
-    ensures { result ≡ counted res }
+fn answer_count(outcome: Result<u32, Refusal>) -> Answer
+    ensures { result ≡ counted outcome }
 {
-    match res {
+    match outcome {
         Ok(count) => Answer::Count(count),
         Err(refusal) => Answer::Refused(refusal),
     }

@@ -12,10 +12,10 @@ use price::Price;
 use rules::Refusal;
 
 // What is printed: a refusal is told with the line's number.
-fn numbered(number: u64, res: Result<Printed, Refusal>) -> Printed
-    ensures { result ≡ told number res }
+fn numbered(number: u64, outcome: Result<Printed, Refusal>) -> Printed
+    ensures { result ≡ told number outcome }
 {
-    match res {
+    match outcome {
         Ok(printed) => printed,
         Err(refusal) => Printed::Refused(LineFault {
             line: number,
