@@ -104,7 +104,9 @@ pub record Stepped {P : Type 0} (meaning : P → Meaning) (before : Broker P) (x
 abbrev pub KeepsBids : {P : Type 0} → (P → Meaning) → Broker P → Broker P → Type 0
 KeepsBids meaning before after = Kept meaning before → Kept meaning after
 
+-- What a call promises that may look at the list of bids.
 pub record Called {P : Type 0} (meaning : P → Meaning) (before : Broker P) (x : Call) (a : Answer) (after : Broker P) : Type 0 where
+  -- the list is a premise only where the call looks at it
   pub stepped : (LooksAtBids x (view before) → Kept meaning before) → Stepped meaning before x a after
   pub kept : KeepsBids meaning before after
   pub price : after.price ≡ before.price
@@ -117,7 +119,7 @@ pub record Relisted {P : Type 0} (meaning : P → Meaning) (before : Broker P) (
 
 pub record Dropping {P : Type 0} (meaning : P → Meaning) (t : ℕ) (before : Broker P) (n : ℕ) (after : Broker P) : Type 0 where
   pub price : after.price ≡ before.price
-  pub kept : Kept meaning before → Kept meaning after
+  pub kept : KeepsBids meaning before after
   pub rest : view after ≡ moved (view before) (view before).free (view after).clients
   pub clocked : Clocked t (view before).clients n (view after).clients
 

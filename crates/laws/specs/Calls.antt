@@ -83,7 +83,9 @@ entries m b (SetClock tick) =
     ∷ entry TickBeforeClock (tick < b.tick)
     ∷ []
 
--- The same lists for calls that look at no price, without one.
+-- The lists of the calls that look at no price, and of an ask as far as it looks at none, said without a price. Each is the
+-- list of its call above, or that of an ask without its last entry: a pool answers by these, and is proved to step by
+-- those.
 abbrev pub admit_entries : Broker → ℕ → ℕ → ℕ → ℕ → ℕ → List Entry
 admit_entries b c shares class minimum maximum =
     entry ClientOutOfRange (Outside 1 256 c)

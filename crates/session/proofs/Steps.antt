@@ -42,7 +42,7 @@ line_run m o b h text r calls d run (session.malformed v) = run
 module _ {P : Type 0} (meaning : P → Meaning) (before after : Broker P) (text : List ℕ) where
   judged : (r : Result Printed Refusal) →
       (Kept meaning before → (whole : List ℕ) → take 80 whole ≡ take 80 text → (calls : List history.Event) × LinePerforms (meaning before.price) (view before) whole r calls (view after)) →
-      (Kept meaning before → Kept meaning after) → after.price ≡ before.price → Judged meaning before text r after
+      KeepsBids meaning before after → after.price ≡ before.price → Judged meaning before text r after
   judged r performs kept price =
       record {
         performs = performs;

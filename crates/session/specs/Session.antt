@@ -1,6 +1,7 @@
 -- What is printed of an event line that is performed on a broker.
 --
 -- Broker, view, Kept, Led   a broker, as the rules speak of it, with its list of bids kept, with the calls that led to it
+-- KeepsBids      the list of bids stays kept
 -- Event          what a line says
 -- call_of        the call that an event makes
 -- taken_of       from whom a frame was taken, and its price at its holding before the loss; nobody's where it was free
@@ -25,7 +26,7 @@ use Rattle.laws.specs.Calls.{Call, Start, Admit, Ask, Deliver, HandBack, Leave, 
 use Rattle.laws.specs.Histories as history
 use Rattle.laws.specs.Questions.{price_at}
 use Rattle.broker.specs.declared.broker.Broker.{Broker}
-use Rattle.broker.specs.View.{view, Kept, Led}
+use Rattle.broker.specs.View.{view, Kept, KeepsBids, Led}
 use Rattle.session.specs.declared.printed.Grant.{Grant}
 use Rattle.session.specs.declared.printed.Taken.{Taken}
 use Rattle.session.specs.declared.printed.Printed.{Printed}
@@ -84,14 +85,14 @@ LinePrints m n b text p calls d = (r : Result Printed Refusal) × (p ≡ numbere
 
 pub record Performed {P : Type 0} (meaning : P → Meaning) (before : Broker P) (e : Event) (r : Result Printed Refusal) (after : Broker P) : Type 0 where
   pub performs : Kept meaning before → (calls : List history.Event) × Performs (meaning before.price) (view before) e r calls (view after)
-  pub kept : Kept meaning before → Kept meaning after
+  pub kept : KeepsBids meaning before after
   pub price : after.price ≡ before.price
 
 -- Of a line the first 80 bytes decide, so any line that begins with them is performed alike.
 pub record Judged {P : Type 0} (meaning : P → Meaning) (before : Broker P) (text : List ℕ) (r : Result Printed Refusal) (after : Broker P) : Type 0 where
   pub performs : Kept meaning before → (whole : List ℕ) → take 80 whole ≡ take 80 text →
       (calls : List history.Event) × LinePerforms (meaning before.price) (view before) whole r calls (view after)
-  pub kept : Kept meaning before → Kept meaning after
+  pub kept : KeepsBids meaning before after
   pub price : after.price ≡ before.price
   -- whatever calls led to the broker as it came, with those of this line they lead to the broker as it is left
   pub history : (h calls : List history.Event) (whole : List ℕ) → Led meaning h before → LinePerforms (meaning before.price) (view before) whole r calls (view after) → Led meaning (calls ++ h) after
