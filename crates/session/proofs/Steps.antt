@@ -9,7 +9,7 @@ use Rattle.laws.specs.Calls.{Call, Answer, Refused, Step}
 use Rattle.laws.specs.Histories as history
 use Rattle.laws.specs.Histories.{Run, then}
 use Rattle.broker.specs.declared.broker.Broker.{Broker}
-use Rattle.broker.specs.View.{view, Kept, Called}
+use Rattle.broker.specs.View.{view, Kept, KeepsBids, Called}
 use Rattle.session.specs.declared.printed.Printed.{Printed}
 use Rattle.session.specs.Session.{call_of, Performs, LinePerforms, Performed, Judged}
 use Rattle.session.specs.Session as session
