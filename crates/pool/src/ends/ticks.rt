@@ -41,9 +41,6 @@ impl Ends {
     pub(crate) fn first(&self) -> Option<(usize, u32)>
         ensures { MatchOption result ((c : ℕ) → end_of self.now c ≡ None) (λ p. (p.0 < 257) × Earliest (end_of self.now) p.0 p.1) }
     {
-        match heap::root(&self.records, self.count) {
-            Some((client, end)) => Some((client, end.tick)),
-            None => None,
-        }
+        heap::root(&self.records, self.count).map(|(client, end)| (client, end.tick))
     }
 }

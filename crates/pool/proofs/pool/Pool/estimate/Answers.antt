@@ -29,4 +29,4 @@ pub returns : goal.returns
 returns c =
     let b = c.args.self.now in
     let found = c.in_ok-member.ensures in
-    λ m. (estimate_step m b.unit b.tick b.asks b.passage b.members b.ledger c.args.client c.args.active c.args.end c.in_ok-member.member b.places found.1 found.0)
+    λ m. (estimate_step m b.unit b.tick b.asks b.passage b.members b.ledger c.args.client c.args.estimate c.in_ok-member.member b.places found.1 found.0)

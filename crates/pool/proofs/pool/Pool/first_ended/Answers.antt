@@ -6,4 +6,4 @@ use Rattle.pool.proofs.pool.Pool.first_ended.Goals as goal
 pub returns-then-tick-end : goal.returns-then-tick-end
 returns-then-tick-end c =
     let b = c.args.self.now in
-    nobody_ends_yet b.members b.ends b.noted (stack_of b.ledger) c.args.tick c.in-Some.client c.in-Some.end c.in-Some.ensures.1 (omega (arith, c.if-tick-end.true))
+    nobody_ends_yet b.members b.ends b.noted (stack_of b.ledger) c.args.tick c.in_ok-client.client c.in_ok-client.end c.in_ok-client.ensures.1 (omega (arith, c.if-tick-end.true))
