@@ -1,26 +1,17 @@
 -- A heap of ends as a map from clients to ticks.
-use Rattle.std.proofs.Common.{◌≡◌, ℕ, ◌<◌, ◌≤◌, Bool, true, false, cond, eqb, List, length, Some, None, MatchOption, Option, Bor, refl, ap, ◌∙◌, arith}
+use Rattle.std.proofs.Common.{◌≡◌, ℕ, ◌≤◌, Bool, true, false, cond, eqb, Some, None, Option, refl, ap, ◌∙◌, arith}
 use Rattle.std.specs.Map.{update}
 use Rattle.std.specs.Option.{option_map}
 use Rattle.std.proofs.lemmas.Bool.Decides.{nat_tests}
-use Rattle.heap.specs.declared.records.Record.{Record}
-use Rattle.heap.specs.Heaps.{keys, is_in, Least}
+use Rattle.heap.specs.Heaps.{Least}
 use Rattle.laws.specs.ByNumber.{put}
 use Rattle.laws.proofs.Kept.{none_some}
 use Rattle.pool.specs.declared.ends.End.{End}
 use Rattle.pool.specs.Ticks.{leads}
-use Rattle.pool.specs.declared.ends.Ends.{Ends}
-use Rattle.pool.specs.Ends.{end_of, Earliest}
+use Rattle.pool.specs.Ends.{Earliest}
 
 abbrev ticks : (ℕ → Option End) → ℕ → Option ℕ
 ticks m c = option_map (λ e. e.tick) (m c)
-
-nobody_keyed : (xs : List (Record End)) (c : ℕ) → keys xs 0 c ≡ None
-unfolding keys is_in
-nobody_keyed xs c = grind (arith, nat_tests)
-
-pub nobody_in : (xs : List (Record End)) (c : ℕ) → ticks (keys xs 0) c ≡ None
-nobody_in xs c = ap (option_map (λ e. e.tick)) (nobody_keyed xs c)
 
 -- an update at a number is what is put there
 pub update_put : {A : Type 0} (f : ℕ → Option A) (c : ℕ) (x : Option A) (d : ℕ) → update eqb f c x d ≡ put f c x d
@@ -47,11 +38,3 @@ least_earliest m c k l = record { has = ap (option_map (λ e. e.tick)) l.has; no
         let le = f b refl in
         grind (arith, nat_tests)
     after s None f h = absurd (none_some refl h)
-
--- the first of the ends, told with its tick
-pub first_told : (x : Ends) (o : Option (ℕ × Bor End)) (r : Option (ℕ × ℕ)) →
-    MatchOption o ((c : ℕ) → keys x.records x.count c ≡ None) (λ p. (p.0 < length x.records) × Least leads (keys x.records x.count) p.0 p.1.now) →
-    MatchOption o (r ≡ None) (λ p. r ≡ Some (p.0, p.1.now.tick)) →
-    MatchOption r ((c : ℕ) → end_of x c ≡ None) (λ p. (p.0 < 257) × Earliest (end_of x) p.0 p.1)
-first_told x (Some p) r (few, least) told = rw told (omega (arith, few, x.places), least_earliest (keys x.records x.count) p.0 p.1.now least)
-first_told x None r none told = rw told (λ c. ap (option_map (λ e. e.tick)) (none c))

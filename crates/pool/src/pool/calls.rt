@@ -6,8 +6,9 @@ ghost use Rattle.laws.specs.Calls.{Start, Admit, Deliver, Done, admit_entries, a
 ghost use Rattle.pool.specs.View.{view, Steps};
 
 use super::Pool;
-use crate::ends::Ends;
+use crate::ends::End;
 use crate::member::Member;
+use heap::IndexedHeap;
 use ledger::Ledger;
 use rules::{Admission, Refusal, SlipNumbers};
 
@@ -23,7 +24,7 @@ impl Pool {
             passage: None,
             members: [None; 256],
             ledger: Ledger::new(),
-            ends: Ends::new(),
+            ends: IndexedHeap::new(End { tick: 0 }),
         }
     }
 

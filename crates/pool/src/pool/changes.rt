@@ -6,6 +6,7 @@ ghost use Rattle.laws.specs.Calls.{HandBack, Leave, SetEstimate, Done, Frame, Co
 ghost use Rattle.pool.specs.View.{view, Steps};
 
 use super::Pool;
+use crate::ends::End;
 use crate::member::Member;
 use rules::{Estimate, Refusal};
 
@@ -73,7 +74,7 @@ impl Pool {
             estimate: Some(estimate),
             ..member
         });
-        self.ends.put(client as usize, estimate.end);
+        self.ends.put(client as usize, End { tick: estimate.end });
         Ok(())
     }
 }

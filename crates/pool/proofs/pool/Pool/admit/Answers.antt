@@ -5,6 +5,7 @@ use Rattle.laws.proofs.Kept.{inside}
 use Rattle.ledger.specs.Ledgers.{stack_of}
 use Rattle.ledger.proofs.Ledgers.{few_frames}
 use Rattle.pool.proofs.Tables.{new_ranges, set_ranges, set_stray, admit_step, not_there}
+use Rattle.pool.specs.Ends.{end_of}
 use Rattle.pool.proofs.Noted.{set_unestimated}
 use Rattle.pool.proofs.pool.Pool.admit.Goals as goal
 
@@ -24,7 +25,7 @@ invariant_of-self c =
       places = length-set b.members (c.args.asked.client - 1) _ ∙ b.places;
       ranges = set_ranges b.members (c.args.asked.client - 1) _ i (new_ranges c.args.asked clear.1.0 clear.1.1.0 few) b.ranges;
       stray = set_stray b.members b.ledger (c.args.asked.client - 1) _ i b.stray;
-      noted = set_unestimated b.members b.ends c.args.asked.client (c.args.asked.client - 1) _ (omega (arith, n)) i (not_there _ (stack_of b.ledger c.args.asked.client) clear.1.1.1.1.1.0) refl b.noted;
+      noted = set_unestimated b.members (end_of b.ends) c.args.asked.client (c.args.asked.client - 1) _ (omega (arith, n)) i (not_there _ (stack_of b.ledger c.args.asked.client) clear.1.1.1.1.1.0) refl b.noted;
     }
 
 pub returns : goal.returns
