@@ -9,47 +9,26 @@ ghost use Rattle.text.specs.Texts.{Placed, cut, spelt};
 
 use crate::reader::Reader;
 use crate::word::EventKind;
-use rules::Refusal;
+use rules::{Admission, Estimate, Refusal};
 use text::Text;
 
 /// What an event line says. The numbers are as they came: whether the broker takes them is for the broker to say.
 #[derive(Clone, Copy, PartialEq, Eq, Debug, Drop)]
 pub enum Event {
     /// `S unit frames`
-    Start {
-        unit: u32,
-        frames: u32,
-    },
+    Start { unit: u32, frames: u32 },
     /// `A client shares class minimum maximum`
-    Admit {
-        client: u32,
-        shares: u32,
-        class: u32,
-        minimum: u32,
-        maximum: u32,
-    },
+    Admit(Admission),
     /// `Q client`
-    Ask {
-        client: u32,
-    },
+    Ask { client: u32 },
     /// `H client`
-    HandBack {
-        client: u32,
-    },
+    HandBack { client: u32 },
     /// `L client`
-    Leave {
-        client: u32,
-    },
+    Leave { client: u32 },
     /// `E client active end`
-    Estimate {
-        client: u32,
-        active: u32,
-        end: u32,
-    },
+    Estimate { client: u32, estimate: Estimate },
     /// `T tick`
-    Clock {
-        tick: u32,
-    },
+    Clock { tick: u32 },
 }
 
 /// The event of a kind with these numbers, of which it takes as many as its line has.
@@ -61,20 +40,19 @@ fn event_of(k: EventKind, ns: [u32; 5]) -> Event
     let [a, b, c, d, e] = ns;
     match k {
         EventKind::Start => Event::Start { unit: a, frames: b },
-        EventKind::Admit => Event::Admit {
+        EventKind::Admit => Event::Admit(Admission {
             client: a,
             shares: b,
             class: c,
             minimum: d,
             maximum: e,
-        },
+        }),
         EventKind::Ask => Event::Ask { client: a },
         EventKind::HandBack => Event::HandBack { client: a },
         EventKind::Leave => Event::Leave { client: a },
         EventKind::Estimate => Event::Estimate {
             client: a,
-            active: b,
-            end: c,
+            estimate: Estimate { active: b, end: c },
         },
         EventKind::Clock => Event::Clock { tick: a },
     }
@@ -124,20 +102,13 @@ impl Event {
     {
         match *self {
             Event::Start { unit, frames } => spell(b'S', &[unit, frames]),
-            Event::Admit {
-                client,
-                shares,
-                class,
-                minimum,
-                maximum,
-            } => spell(b'A', &[client, shares, class, minimum, maximum]),
+            Event::Admit(a) => spell(b'A', &[a.client, a.shares, a.class, a.minimum, a.maximum]),
             Event::Ask { client } => spell(b'Q', &[client]),
             Event::HandBack { client } => spell(b'H', &[client]),
             Event::Leave { client } => spell(b'L', &[client]),
             Event::Estimate {
                 client,
-                active,
-                end,
+                estimate: Estimate { active, end },
             } => spell(b'E', &[client, active, end]),
             Event::Clock { tick } => spell(b'T', &[tick]),
         }
