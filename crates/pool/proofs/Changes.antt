@@ -8,7 +8,7 @@ use Rattle.rules.specs.declared.refusal.Refusal.TheVariants.{HoldsNoFrame}
 use Rattle.laws.specs.ByNumber.{put, by_number}
 use Rattle.laws.specs.Broker as rules
 use Rattle.laws.specs.Broker.{Estimate, SlipNumbers}
-use Rattle.laws.specs.Calls.{HandBack, Leave, SetEstimate, Done, Frame, Count, Step, handed_back, left, estimated, IsClear, RefusedBy, entries}
+use Rattle.laws.specs.Calls.{HandBack, Leave, SetEstimate, Done, Frame, Count, Step, handed_back, left, estimated, with_estimate, IsClear, RefusedBy, entries}
 use Rattle.laws.proofs.Kept.{none_some, inside}
 use Rattle.laws.proofs.Puts.{put_at, put_off, each_but}
 use Rattle.ledger.specs.declared.ledger.Ledger.{Ledger}
@@ -88,19 +88,15 @@ leave_step m u t n p xs l k c r x long e v same clear =
     let whole = subst (λ (d : rules.Broker). Step m b (Leave c) (Ok (Count (length (stack_of l c)))) d) (sym (same_parts u k.frames t n p same v.free after)) (left {x = client_with x (stack_of l c)} clear it) in
     subst (λ (q : ℕ). Step m b (Leave c) (Ok (Count q)) (seen u t n p (set xs (c - 1) None) k)) (sym v.counted) whole
 
--- a client with another estimate, as it is noted
-abbrev pub estimating : Member → Estimate → Member
-estimating x v = record { shares = x.shares; class = x.class; minimum = x.minimum; maximum = x.maximum; estimate = Some v }
-
-pub estimate_step : (m : Meaning) (u t n : ℕ) (p : Option SlipNumbers) (xs : List (Option Member)) (l : Ledger) (c : ℕ) (v : Estimate) (x : Member) → length xs ≡ 256 → by_number xs c ≡ Some x →
-    IsClear m (seen u t n p xs l) (SetEstimate c v) →
-    Step m (seen u t n p xs l) (SetEstimate c v) (Ok Done) (seen u t n p (set xs (c - 1) (Some (estimating x v))) l)
-estimate_step m u t n p xs l c v x long e clear =
+pub estimate_step : (m : Meaning) (u t n : ℕ) (p : Option SlipNumbers) (xs : List (Option Member)) (l : Ledger) (c : ℕ) (v : Estimate) (x y : Member) → length xs ≡ 256 → by_number xs c ≡ Some x →
+    IsClear m (seen u t n p xs l) (SetEstimate c v) → client_with y (stack_of l c) ≡ with_estimate (client_with x (stack_of l c)) (Some v) →
+    Step m (seen u t n p xs l) (SetEstimate c v) (Ok Done) (seen u t n p (set xs (c - 1) (Some y)) l)
+estimate_step m u t n p xs l c v x y long e clear with_it =
     let b = seen u t n p xs l in
     let in_table = inside 1 256 c clear.0 in
     let i : c ≡ suc (c - 1) = omega (arith, in_table) in
     let it : b.clients c ≡ Some (client_with x (stack_of l c)) = ap (λ (o : Option Member). client_of o (stack_of l c)) e in
-    let after = set_clients xs (stack_of l) c (c - 1) (Some (estimating x v)) i (omega (arith, in_table, long)) in
+    let after = set_clients xs (stack_of l) c (c - 1) (Some y) i (omega (arith, in_table, long)) ∙ ap (λ (z : rules.Client). put b.clients c (Some z)) with_it in
     subst (λ (d : rules.Broker). Step m b (SetEstimate c v) (Ok Done) d) (sym (same_parts u l.frames t n p refl refl after))
     (estimated {x = client_with x (stack_of l c)} clear it)
 

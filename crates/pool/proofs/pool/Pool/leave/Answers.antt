@@ -2,7 +2,6 @@ use Rattle.std.proofs.Common.{◌-◌, ◌<◌, length, None, refl, ◌∙◌, a
 use Rattle.std.proofs.lemmas.Result.{err_from_is_err_and}
 use Rattle.laws.specs.Calls.{refused}
 use Rattle.laws.proofs.Kept.{inside}
-use Rattle.pool.proofs.Tables.{set_ranges}
 use Rattle.pool.proofs.Changes.{left_stray, leave_step}
 use Rattle.pool.specs.Ends.{end_of}
 use Rattle.pool.proofs.Ticks.{tick_put}
@@ -23,7 +22,6 @@ invariant_of-self c =
     let v = c.release-frames.ensures.freed (λ z. omega (arith, n, z)) in
     record {
       places = length-set b.members (c.args.client - 1) _ ∙ b.places;
-      ranges = set_ranges b.members (c.args.client - 1) None i refl b.ranges;
       stray = left_stray b.members b.ledger c.release-frames.new.self c.args.client c.release-frames.result c.in_ok-caller.field-0 (omega (arith, n)) i found.1 v b.stray;
       noted = set_noted b.members (end_of b.ends) (end_of c.take.new.self) c.args.client (c.args.client - 1) None (omega (arith, n)) i (tick_put _ _ _ _ c.take.ensures) (omega arith) refl b.noted;
     }

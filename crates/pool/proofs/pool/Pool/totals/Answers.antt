@@ -1,4 +1,4 @@
-use Rattle.std.proofs.Common.{◌≤◌, length, None, sum_by, sym, ap, ◌∙◌, arith}
+use Rattle.std.proofs.Common.{◌≤◌, length, sum_by, sym, ap, ◌∙◌, arith}
 use Rattle.std.proofs.lemmas.List.{take_all}
 use Rattle.std.proofs.lemmas.List.Sums.{sum_by_more}
 use Rattle.ledger.specs.Ledgers.{stack_of}
@@ -10,8 +10,8 @@ pub loop-place-preserved : goal.loop-place-preserved
 loop-place-preserved c =
     let b = c.args.self.now in
     let n = b.places in
-    let shares = sum_by_more noted_shares b.members c.loop-place.place-index None (omega arith) in
-    let minimums = sum_by_more noted_minimum b.members c.loop-place.place-index None (omega arith) in
+    let shares = sum_by_more noted_shares b.members c.loop-place.place-index c.place-item.result (omega arith) in
+    let minimums = sum_by_more noted_minimum b.members c.loop-place.place-index c.place-item.result (omega arith) in
     elim c.match-place.branch [
       | in-Some w ↦
           let e = ap noted_shares w.in-Some.is in
