@@ -1,13 +1,10 @@
 use Rattle.std.proofs.Common.{refl}
-use Rattle.std.proofs.lemmas.Result.{err_from_is_err_and}
-use Rattle.laws.specs.Calls.{refused}
+use Rattle.pool.proofs.Views.{refused_exit}
 use Rattle.pool.proofs.Tables.{admit_step}
 use Rattle.pool.proofs.pool.Pool.admit.Goals as goal
 
 pub returns-in_err-admissible : goal.returns-in_err-admissible
-returns-in_err-admissible c =
-    let p = err_from_is_err_and c.from_residual.result c.from_residual.ensures.1 in
-    rw (p.1, p.2) (λ m. (refused c.in_err-admissible.ensures))
+returns-in_err-admissible c = λ m. (refused_exit _ _ c.from_residual.result c.from_residual.ensures.1 refl c.in_err-admissible.ensures)
 
 pub returns : goal.returns
 returns c =
