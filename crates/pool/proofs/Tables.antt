@@ -1,7 +1,6 @@
 -- The table of clients, with one place changed.
-use Rattle.std.proofs.Common.{◌≡◌, ℕ, suc, ◌-◌, ◌*◌, ◌/◌, ◌^◌, ◌<◌, ◌≤◌, ◌≢◌, List, [], length, get_or, set, Some, None, Ok, Option, sym, refl, ap, ◌∙◌, subst, mul-le-mul, div-le_self, arith}
+use Rattle.std.proofs.Common.{◌≡◌, ℕ, suc, ◌-◌, ◌<◌, ◌≤◌, ◌≢◌, List, [], length, set, Some, None, Ok, Option, sym, refl, ap, ◌∙◌, subst, arith}
 use mathlib.Core.Path.{fun_ext}
-use Rattle.std.proofs.lemmas.List.{get_or-set_same, get_or-set_other}
 use Rattle.rules.specs.Offers.{Meaning}
 use Rattle.laws.specs.ByNumber.{total, Numbered, put, by_number}
 use Rattle.laws.specs.Broker as rules
@@ -17,15 +16,6 @@ use Rattle.ledger.specs.Ledgers.{stack_of}
 use Rattle.pool.specs.Members.{Member, NoStray}
 use Rattle.pool.specs.View.{client_of}
 use Rattle.pool.proofs.Views.{clients_of, seen, same_parts}
-
--- what holds of every place holds where one is changed, if it holds of the new thing
-pub set_each : {X : Type 0} (Q : ℕ → X → Type 0) (d : X) (xs : List X) (i : ℕ) (x : X) → i < length xs → Q i x → ((k : ℕ) → Q k (get_or xs k d)) → (k : ℕ) → Q k (get_or (set xs i x) k d)
-set_each Q d xs i x h q each =
-    each_but i (λ k. Q k (get_or (set xs i x) k d)) (rw (get_or-set_same xs i x d h) q) (λ k ne. rw (get_or-set_other xs i k x d ne) (each k))
-
--- a place that is taken has no stray frames
-pub set_stray : (xs : List (Option Member)) (l : Ledger) (i : ℕ) (x : Member) → i < length xs → NoStray xs l → NoStray (set xs i (Some x)) l
-set_stray xs l i x h r = set_each (λ k o. o ≡ None → stack_of l (suc k) ≡ []) None xs i (Some x) h (λ e. absurd (none_some e refl)) r
 
 -- changed in the table, changed among the clients
 pub set_clients : (xs : List (Option Member)) (s : ℕ → List ℕ) (c i : ℕ) (v : Option Member) → c ≡ suc i → i < length xs →
@@ -69,7 +59,3 @@ admit_step m u t n p xs l a x long stray new clear =
     let empty : stack_of l c ≡ [] = subst (λ (d : ℕ). stack_of l d ≡ []) (sym i) (stray (c - 1) (subst (λ (d : ℕ). by_number xs d ≡ None) i none)) in
     let after = set_clients xs (stack_of l) c (c - 1) (Some x) i (omega (arith, h, long)) ∙ (ap (λ (fs : List ℕ). put (clients_of xs (stack_of l)) c (client_of (Some x) fs)) empty ∙ ap (put (clients_of xs (stack_of l)) c) new) in
     subst (λ (d : rules.Broker). Step m (seen u t n p xs l) (Admit a) (Ok Done) d) (sym (same_parts u l.frames t n p refl refl after)) (admitted clear)
-
--- a proportional share fits 32 bits
-pub small_share : (F s all : ℕ) → F ≤ 4_096 → s ≤ 1_000_000 → F * s / all < 2 ^ 32
-small_share F s all f h = omega (arith, div-le_self (F * s) all, mul-le-mul f h)

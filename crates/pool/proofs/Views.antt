@@ -1,5 +1,5 @@
 -- Equal parts make equal views, and a call that leaves the view as it was may be a refused one.
-use Rattle.std.proofs.Common.{◌≡◌, ℕ, zero, suc, List, get_or, Some, None, Ok, Err, IsErrAnd, Option, Result, sym, refl, ap, subst}
+use Rattle.std.proofs.Common.{◌≡◌, ℕ, zero, suc, List, get_or, None, Ok, Err, IsErrAnd, Option, Result, sym, refl, ap, subst}
 use mathlib.Core.Path.{fun_ext}
 use Rattle.rules.specs.Offers.{Meaning}
 use Rattle.rules.specs.declared.refusal.Refusal.{Refusal}
@@ -41,6 +41,3 @@ same_clients xs s t e = fun_ext each
     each : (c : ℕ) → clients_of xs s c ≡ clients_of xs t c
     each zero = refl
     each (suc i) = ap (client_of (get_or xs i None)) (e i)
-
-pub some_same : {A : Type 0} {a b : A} → ◌≡◌ {A = Option A} (Some a) (Some b) → a ≡ b
-some_same e = cc

@@ -21,7 +21,7 @@ returns-in_err-frame c =
     let n = inside 1 256 c.args.client found.0.0 in
     let empty = v.1 (omega arith) (λ z. omega (arith, n, z)) in
     λ m. (refused_exit _ _ c.from_residual-in_err-frame.result c.from_residual-in_err-frame.ensures.1 (ap (seen b.unit b.tick b.asks b.passage b.members) v.0)
-        (rw none.1 (refused_empty m b.unit b.tick b.asks b.passage b.members b.ledger c.args.client c.in_ok-caller.field-0 found.1 empty found.0)))
+    (rw none.1 (refused_empty m b.unit b.tick b.asks b.passage b.members b.ledger c.args.client c.in_ok-caller.field-0 found.1 empty found.0)))
 
 pub returns : goal.returns
 returns c =
