@@ -53,11 +53,9 @@ impl Pool {
     {
         let mut shares: u64 = 0;
         let mut minimums: u64 = 0;
-        for place in self.members.iter() {
-            if let Some(member) = place {
-                shares += member.shares as u64;
-                minimums += member.minimum as u64;
-            }
+        for member in self.members.iter().flatten() {
+            shares += member.shares as u64;
+            minimums += member.minimum as u64;
         }
         Totals { shares, minimums }
     }
