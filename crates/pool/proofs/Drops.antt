@@ -13,7 +13,6 @@ use Rattle.pool.proofs.Views.{seen_with, same_parts}
 use Rattle.pool.proofs.Tables.{set_clients}
 use Rattle.pool.proofs.Changes.{client_with}
 use Rattle.pool.proofs.Firsts.{client_end, none_ends_yet}
-use Rattle.pool.proofs.Noted.{from_noted}
 
 -- an estimate ends when its client's does
 end_seen : (o : Option Member) (fs : List ℕ) → client_end (client_of o fs) ≡ end_in o
@@ -22,7 +21,7 @@ end_seen None fs = refl
 
 module _ (b : Pool) (t : ℕ) where
   same : (c : ℕ) → end_of b.ends c ≡ client_end ((view b).clients c)
-  same c = from_noted b.members (end_of b.ends) b.noted c ∙ sym (end_seen (by_number b.members c) (stack_of b.ledger c))
+  same c = b.noted c ∙ sym (end_seen (by_number b.members c) (stack_of b.ledger c))
 
   -- where the first end is after t, no estimate of the table ends by t
   pub nobody_ends_yet : (c e : ℕ) → Earliest (end_of b.ends) c e → t < e → (d : ℕ) → ends t ((view b).clients d) ≡ 0

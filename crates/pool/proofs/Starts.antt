@@ -13,6 +13,7 @@ use Rattle.ledger.specs.declared.ledger.Ledger.{Ledger}
 use Rattle.ledger.specs.Ledgers.{stack_of, Started}
 use Rattle.ledger.proofs.Ledgers.{holding_few, no_owner}
 use Rattle.pool.specs.declared.member.Member.{Member}
+use Rattle.pool.specs.Members.{end_in, EndsNoted}
 use Rattle.pool.specs.View.{Pool, view, client_of}
 use Rattle.pool.proofs.Views.{clients_of, seen, same_parts, same_clients}
 
@@ -48,6 +49,11 @@ start_step m b k u F s clear =
     let e = same_parts u k.frames b.tick b.asks b.passage s.frames (s.filled.free ∙ counted 1 F)
     (same_clients b.members (stack_of k) (stack_of b.ledger) (λ i. s.filled.others (suc i) (λ z. omega arith) ∙ sym (no_stack b.ledger s.none_before (suc i)))) in
     subst (λ (d : rules.Broker). Step m (view b) (Start u F) (Ok Done) d) (sym e) (started clear)
+
+-- an empty table, and no end
+pub new_noted : (n : ℕ) (es : ℕ → Option ℕ) → ((c : ℕ) → es c ≡ None) → EndsNoted (replicate n None) es
+new_noted n es none zero = none 0
+new_noted n es none (suc i) = none (suc i) ∙ sym (ap end_in (same_at n i None))
 
 -- what a clause says of a result whose variant is known
 pub at_ok : {T E : Type 0} (P : T → Type 0) (Q : E → Type 0) (r : Result T E) → true ≡ is_ok r → MatchResult r P Q → (x : T) × P x
