@@ -3,13 +3,14 @@ ghost use Rattle.std.specs.Prelude.{◌≡◌, ℕ, ◌+◌, ◌<◌, ◌≤◌,
 ghost use Rattle.ledger.specs.Stacks.{Filled, Moved, Freed};
 ghost use Rattle.ledger.specs.Linked.{stacks, many, Sound};
 
-use super::Links;
+use super::{Links, Stack};
 
 // Links each frame from 1 on to the next.
 fn link_down(below: &mut [u16], frames: u16)
     requires { (frames < length below.old) × (frames ≤ 4096) }
     ensures { (f : ℕ) → 1 ≤ f → f ≤ frames → slice_index below.new f ≡ f + 1 }
 {
+    // Kept: the index is the frame itself; `for (frame, under) in (1..=frames).zip(&mut below[1..])` says no less and no more.
     for frame in 1..=frames {
         below[frame as usize] = frame + 1;
     }
@@ -24,8 +25,7 @@ impl Links {
     {
         Links {
             below: [0; 4097],
-            top: [0; 257],
-            height: [0; 257],
+            stacks: [Stack { top: 0, height: 0 }; 257],
         }
     }
 
@@ -33,11 +33,7 @@ impl Links {
     pub(crate) fn height_of(&self, owner: usize) -> u16
         ensures { result ≡ length (stacks self.now owner) }
     {
-        if owner < self.height.len() {
-            self.height[owner]
-        } else {
-            0
-        }
+        self.stacks.get(owner).map_or(0, |stack| stack.height)
     }
 
     // Whether an owner's stack has no frame.
@@ -55,8 +51,10 @@ impl Links {
         ensures filled { Filled (stacks self.new) frames }
     {
         link_down(&mut self.below, frames);
-        self.top[0] = 1;
-        self.height[0] = frames;
+        self.stacks[0] = Stack {
+            top: 1,
+            height: frames,
+        };
     }
 
     // Moves the top frame of a stack that has one onto another.
@@ -66,14 +64,18 @@ impl Links {
         ensures many { many self.new ≡ many self.old }
         ensures moved { Moved (stacks self.old) (stacks self.new) from to result }
     {
-        let frame = self.top[from];
-        let next = self.below[frame as usize];
-        let under = self.top[to];
-        self.below[frame as usize] = under;
-        self.top[from] = next;
-        self.top[to] = frame;
-        self.height[from] -= 1;
-        self.height[to] += 1;
+        let giver = self.stacks[from];
+        let taker = self.stacks[to];
+        let frame = giver.top;
+        self.stacks[from] = Stack {
+            top: self.below[frame as usize],
+            height: giver.height - 1,
+        };
+        self.stacks[to] = Stack {
+            top: frame,
+            height: taker.height + 1,
+        };
+        self.below[frame as usize] = taker.top;
         frame
     }
 
