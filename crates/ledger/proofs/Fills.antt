@@ -1,12 +1,13 @@
 -- Stacks without frames, and stacks whose frames are all free.
 use Rattle.std.proofs.Common.{◌≡◌, ℕ, zero, suc, ◌+◌, ◌<◌, ◌≤◌, cond, ltb, leb, List, [], ◌∷◌, length, get_or, set, replicate, sym, refl, ap, ◌∙◌, subst, inl, inr, arith}
-use Rattle.std.specs.List.{range_with_len, sum_by}
+use Rattle.std.specs.List.{range_with_len}
 use Rattle.std.proofs.lemmas.List.{get_or-set_same, get_or-set_other, get_or_past}
 use Rattle.std.proofs.lemmas.List.Sums.{sum_by-set, get_or-le-sum_by}
 use Rattle.std.proofs.lemmas.Bool.{cases_lt}
 use Rattle.std.proofs.lemmas.Bool.Decides.{nat_tests}
 use Rattle.ledger.specs.Stacks.{times, pooled, Once, Filled}
-use Rattle.ledger.specs.Linked.{down, empty, stack, many}
+use Rattle.ledger.specs.Linked.{down, empty, stack, together, Sound}
+use Rattle.ledger.specs.Links.{many}
 use Rattle.ledger.specs.declared.links.Links.{Links}
 use Rattle.ledger.specs.declared.links.Stack.{Stack}
 use Rattle.ledger.proofs.Sums.{summed_same, summed_none, summed_one}
@@ -62,10 +63,10 @@ module _ (v : Links) (below : List ℕ) (F : ℕ) (none : many v ≡ 0) (links :
   pub filled : Filled (stack below all_free) F
   filled = record { free = free; others = λ o d. stack_none below all_free o (ap (λ s. s.height) (get_or-set_other v.stacks 0 o _ empty d) ∙ low o) }
 
-  pub many_filled : sum_by (λ s. s.height) all_free ≡ F
+  pub many_filled : together all_free ≡ F
   many_filled = let a = sum_by-set (λ s. s.height) v.stacks 0 (record { top = 1; height = F }) empty owned in let b = low 0 in omega arith
 
-  pub sound_filled : F ≤ 4096 → (sum_by (λ s. s.height) all_free ≤ 4096) × Once (stack below all_free) 257 (sum_by (λ s. s.height) all_free)
+  pub sound_filled : F ≤ 4096 → Sound below all_free
   sound_filled h =
       let e = many_filled in (
         omega arith,

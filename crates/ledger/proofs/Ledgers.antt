@@ -10,11 +10,11 @@ use Rattle.ledger.proofs.Moves.{frame_within}
 
 module _ (l : Ledger) where
   pub few_frames : l.frames ≤ 4096
-  few_frames = let e = l.all in let s = l.sound.0 in omega arith
+  few_frames = let e = l.all in let s = l.links.sound.0 in omega arith
 
   -- each frame lies in one stack, once
   pub frames_once : Once (stack_of l) 257 l.frames
-  frames_once = subst (Once (stack_of l) 257) l.all l.sound.1
+  frames_once = subst (Once (stack_of l) 257) l.all l.links.sound.1
 
   -- the holdings are all the frames there are
   pub holdings_all : summed (λ o. length (stack_of l o)) 257 ≡ l.frames

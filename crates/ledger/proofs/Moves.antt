@@ -1,11 +1,11 @@
 -- A frame goes from the top of one stack to the top of another.
-use Rattle.std.proofs.Common.{◌≡◌, ℕ, zero, suc, ◌+◌, ◌-◌, ◌<◌, ◌≤◌, cond, eqb, List, ◌∷◌, length, get_or, set, sym, ap, ◌∙◌, subst, inl, inr, arith}
-use Rattle.std.specs.List.{sum_by}
+use Rattle.std.proofs.Common.{◌≡◌, ℕ, zero, suc, ◌+◌, ◌-◌, ◌<◌, ◌≤◌, cond, eqb, List, ◌∷◌, length, get_or, set, ◌≢◌, sym, ap, ◌∙◌, subst, inl, inr, arith}
 use Rattle.std.proofs.lemmas.List.{get_or-set_same, get_or-set_other, get_or_past, length-set}
 use Rattle.std.proofs.lemmas.List.Sums.{sum_by-set}
 use Rattle.std.proofs.lemmas.Bool.{cases_lt}
 use Rattle.ledger.specs.Stacks.{times, pooled, Once, Moved}
-use Rattle.ledger.specs.Linked.{down, empty, stack, stacks, many, Sound}
+use Rattle.ledger.specs.Linked.{down, empty, stack, together, Sound}
+use Rattle.ledger.specs.Links.{stacks, many}
 use Rattle.ledger.specs.declared.links.Links.{Links}
 use Rattle.ledger.specs.declared.links.Stack.{Stack}
 use Rattle.ledger.proofs.Sums.{one_in, two_in, shifted}
@@ -44,7 +44,7 @@ module _ (s : ℕ → List ℕ) (n F from f : ℕ) (rest : List ℕ) (lf : from 
       let b = here in
       let c = once f in omega (arith, pooled_le F f)
 
-module _ (v : Links) (from to : ℕ) (sound : Sound v) (hf : from < 257) (ht : to < 257) (d : from ≡ to → ⊥) (pos : 0 < length (stacks v from)) where
+module _ (v : Links) (from to : ℕ) (can : (from < 257) × (to < 257) × (from ≢ to) × (0 < length (stacks v from))) where
   abbrev giver : Stack
   giver = get_or v.stacks from empty
 
@@ -70,7 +70,7 @@ module _ (v : Links) (from to : ℕ) (sound : Sound v) (hf : from < 257) (ht : t
   stacks' = set given to heavier
 
   high : 0 < giver.height
-  high = let e = length_stack v.below v.stacks from in omega arith
+  high = let e = length_stack v.below v.stacks from in let p = can.3 in omega arith
 
   rest : List ℕ
   rest = down v.below lighter.top lighter.height
@@ -80,19 +80,22 @@ module _ (v : Links) (from to : ℕ) (sound : Sound v) (hf : from < 257) (ht : t
   taken = ap (down v.below frame) (let h = high in let e : giver.height ≡ suc (giver.height - 1) = omega arith in e)
 
   within : (1 ≤ frame) × (frame ≤ many v)
-  within = frame_within (stacks v) 257 (many v) from frame rest hf taken sound.1
+  within = frame_within (stacks v) 257 (many v) from frame rest can.0 taken v.sound.1
 
   pub frame_linked : frame < 4097
-  frame_linked = let w = within in let f = sound.0 in omega arith
+  frame_linked = let w = within in let f = v.sound.0 in omega arith
 
   pub height_taken : 1 ≤ giver.height
   height_taken = high
 
   gone : (o : ℕ) → (o ≡ from → ⊥) → o < 257 → times frame (stacks v o) ≡ 0
-  gone o apart l = not_elsewhere (stacks v) 257 (many v) from frame rest hf taken sound.1 o l apart
+  gone o apart l = not_elsewhere (stacks v) 257 (many v) from frame rest can.0 taken v.sound.1 o l apart
 
   back : to ≡ from → ⊥
-  back e = d (sym e)
+  back e = can.2 (sym e)
+
+  pub owners_kept : length stacks' ≡ 257
+  owners_kept = length-set given to heavier ∙ (length-set v.stacks from lighter ∙ v.owners)
 
   from_place : from < length v.stacks
   from_place = let l = v.owners in omega arith
@@ -101,7 +104,7 @@ module _ (v : Links) (from to : ℕ) (sound : Sound v) (hf : from < 257) (ht : t
   to_place = let l = length-set v.stacks from lighter in let k = v.owners in omega arith
 
   at_from : get_or stacks' from empty ≡ lighter
-  at_from = get_or-set_other given to from heavier empty d ∙ get_or-set_same v.stacks from lighter empty from_place
+  at_from = get_or-set_other given to from heavier empty can.2 ∙ get_or-set_same v.stacks from lighter empty from_place
 
   at_to : get_or stacks' to empty ≡ heavier
   at_to = get_or-set_same given to heavier empty to_place
@@ -124,21 +127,21 @@ module _ (v : Links) (from to : ℕ) (sound : Sound v) (hf : from < 257) (ht : t
   pub moved : Moved (stacks v) (stack below' stacks') from to frame
   unfolding stack rest
   moved = record {
-    taken = taken ∙ ap (λ l. frame ∷ l) (sym (ap (λ s. down below' s.top s.height) at_from ∙ passed_by lighter.top lighter.height (not_under (stacks v) 257 (many v) from frame rest hf taken sound.1)));
-    given = ap (λ s. down below' s.top s.height) at_to ∙ (ap (down below' frame) (let e : taker.height + 1 ≡ suc taker.height = omega arith in e) ∙ ap (λ l. frame ∷ l) (ap (λ z. down below' z taker.height) (get_or-set_same v.below frame taker.top 0 (let w = frame_linked in let l = v.links in omega arith)) ∙ passed_by taker.top taker.height (gone to back ht)));
+    taken = taken ∙ ap (λ l. frame ∷ l) (sym (ap (λ s. down below' s.top s.height) at_from ∙ passed_by lighter.top lighter.height (not_under (stacks v) 257 (many v) from frame rest can.0 taken v.sound.1)));
+    given = ap (λ s. down below' s.top s.height) at_to ∙ (ap (down below' frame) (let e : taker.height + 1 ≡ suc taker.height = omega arith in e) ∙ ap (λ l. frame ∷ l) (ap (λ z. down below' z taker.height) (get_or-set_same v.below frame taker.top 0 (let w = frame_linked in let l = v.links in omega arith)) ∙ passed_by taker.top taker.height (gone to back can.1)));
     others = others;
   }
 
-  pub many_kept : sum_by (λ s. s.height) stacks' ≡ many v
+  pub many_kept : together stacks' ≡ many v
   many_kept =
       let a = sum_by-set (λ s. s.height) v.stacks from lighter empty from_place in
       let b = sum_by-set (λ s. s.height) given to heavier empty to_place in
       let k = ap (λ s. s.height) (get_or-set_other v.stacks from to lighter empty back) in
       let h = high in omega arith
 
-  pub sound_kept : (sum_by (λ s. s.height) stacks' ≤ 4096) × Once (stack below' stacks') 257 (sum_by (λ s. s.height) stacks')
+  pub sound_kept : Sound below' stacks'
   sound_kept =
       let e = many_kept in (
-        let f = sound.0 in omega arith,
-        subst (Once (stack below' stacks') 257) (sym e) (moved_once (stacks v) (stack below' stacks') 257 (many v) from to frame hf ht d moved sound.1),
+        let f = v.sound.0 in omega arith,
+        subst (Once (stack below' stacks') 257) (sym e) (moved_once (stacks v) (stack below' stacks') 257 (many v) from to frame can.0 can.1 can.2 moved v.sound.1),
       )

@@ -1,5 +1,6 @@
 //! The stacks as links between frames.
 ghost use Rattle.std.specs.Prelude.{◌≡◌, length};
+ghost use Rattle.ledger.specs.Linked.{Sound};
 
 mod moves;
 
@@ -17,4 +18,5 @@ pub(crate) struct Links {
     stacks: [Stack; 257],
     ghost links: { length below ≡ 4097 },
     ghost owners: { length stacks ≡ 257 },
+    ghost sound: { Sound below stacks },
 }

@@ -1,7 +1,7 @@
 //! What is read of the links, and how they change.
 ghost use Rattle.std.specs.Prelude.{◌≡◌, ℕ, ◌+◌, ◌<◌, ◌≤◌, [], length, MatchBool, ◌≢◌, slice_index};
 ghost use Rattle.ledger.specs.Stacks.{Filled, Moved, Freed};
-ghost use Rattle.ledger.specs.Linked.{stacks, many, Sound};
+ghost use Rattle.ledger.specs.Links.{stacks, many};
 
 use super::{Links, Stack};
 
@@ -19,7 +19,6 @@ fn link_down(below: &mut [u16], frames: u16)
 impl Links {
     // Stacks without frames.
     pub(crate) fn blank() -> Links
-        ensures sound { Sound result }
         ensures many { many result ≡ 0 }
         ensures stacks { (o : ℕ) → stacks result o ≡ [] }
     {
@@ -46,7 +45,6 @@ impl Links {
     // Puts the first frames into the free stack, where no stack has any.
     pub(crate) fn fill(&mut self, frames: u16)
         requires { (many self.old ≡ 0) × (frames ≤ 4096) }
-        ensures sound { Sound self.new }
         ensures many { many self.new ≡ frames }
         ensures filled { Filled (stacks self.new) frames }
     {
@@ -59,8 +57,7 @@ impl Links {
 
     // Moves the top frame of a stack that has one onto another.
     pub(crate) fn shift(&mut self, from: usize, to: usize) -> u16
-        requires { Sound self.old × (from < 257) × (to < 257) × (from ≢ to) × (0 < length (stacks self.old from)) }
-        ensures sound { Sound self.new }
+        requires { (from < 257) × (to < 257) × (from ≢ to) × (0 < length (stacks self.old from)) }
         ensures many { many self.new ≡ many self.old }
         ensures moved { Moved (stacks self.old) (stacks self.new) from to result }
     {
@@ -81,8 +78,7 @@ impl Links {
 
     // Moves all frames of an owner other than 0 onto the free stack, one after the other.
     pub(crate) fn release(&mut self, owner: usize) -> u16
-        requires { Sound self.old × (owner ≢ 0) }
-        ensures sound { Sound self.new }
+        requires { (owner ≢ 0) }
         ensures many { many self.new ≡ many self.old }
         ensures freed { Freed (stacks self.old) (stacks self.new) owner result }
     {
