@@ -2,7 +2,7 @@
 use Rattle.std.proofs.Common.{◌≡◌, ℕ, ◌<◌, ◌≤◌, Bool, List, length, get_or, take, is_some, Some, None, sym, ap, ◌∙◌, arith}
 use Rattle.std.proofs.lemmas.List.{length-take, get_or-take}
 use Rattle.heap.specs.declared.records.Record.{Record}
-use Rattle.heap.specs.Heaps.{owner_at, place_of, key_of, key_at, none_first, Placed, Ordered, keys, Heap, Least}
+use Rattle.heap.specs.Heaps.{owner_at, place_of, key_of, key_at, none_first, Placed, keys, Heap, Least}
 use Rattle.heap.proofs.Orders.{Lawful, none_first_lawful}
 use Rattle.heap.proofs.Trees.{root_leads}
 use Rattle.heap.proofs.Writes.{owner_read, key_read}
@@ -11,9 +11,6 @@ use Rattle.heap.proofs.Members.{In, in_at, keys_in, keys_out, some_in}
 module _ {K : Type 0} (le : K → K → Bool) where
   pub heap_placed : (xs : List (Record K)) (n : ℕ) → Heap le xs n → Placed xs n
   heap_placed xs n t = (t.0, t.1, t.2)
-
-  pub placed_ordered : (xs : List (Record K)) (n : ℕ) → Placed xs n → Ordered (none_first le) (key_at xs) n → Heap le xs n
-  placed_ordered xs n x o = (x.0, x.1, x.2, o)
 
   -- fewer places are a heap too
   pub heap_less : (xs : List (Record K)) (m n : ℕ) → m ≤ n → Heap le xs n → Heap le xs m
