@@ -1,6 +1,6 @@
 use Rattle.std.proofs.Common.{◌≡◌, ◌-◌, ◌≤◌, refl, ap, ◌∙◌, arith}
 use Rattle.heap.specs.Heaps.{owner_at, place_of, key_at, keys, Placed}
-use Rattle.heap.proofs.Orders.{lawful, none_first_lawful}
+use Rattle.heap.proofs.Orders.{key_laws}
 use Rattle.heap.proofs.Trees.{gap}
 use Rattle.heap.proofs.Members.{some_in, some_within, present_some, placed_less}
 use Rattle.heap.proofs.Exchanges.{exchanged_placed, exchanged_keys, exchanged_swaps}
@@ -22,7 +22,7 @@ settle-requires g c =
     let p = c.place_of-place.result in (
       placed_less ys (n - 1) n (omega arith) (exchanged_placed xs ys p (n - 1) n (omega arith) (omega arith) (λ e. omega arith) (heap_placed g.K.Order.leads xs n c.requires.0) c.exchange.ensures),
       c.if-place-last.true,
-      gap (none_first_lawful (lawful g.met.K.Order.total g.met.K.Order.chain)) (key_at xs) (key_at ys) p n (n - 1) (omega arith) (omega arith) c.requires.0.3 (λ i h d. (exchanged_swaps xs ys p (n - 1) c.exchange.ensures).2 i d (λ e. omega arith)),
+      gap (key_laws g.met.K.Order.total g.met.K.Order.chain) (key_at xs) (key_at ys) p n (n - 1) (omega arith) (omega arith) c.requires.0.3 (λ i h d. (exchanged_swaps xs ys p (n - 1) c.exchange.ensures).2 i d (λ e. omega arith)),
     )
 
 pub returns-then-place-last : goal.returns-then-place-last
