@@ -101,10 +101,6 @@ module _ {K : Type 0} where
   pub owners_differ : (xs : List (Record K)) (n i j : ℕ) → Placed xs n → i < n → j < n → (i ≡ j → ⊥) → owner_at xs i ≡ owner_at xs j → ⊥
   owners_differ xs n i j x hi hj d e = d (sym (x.2 i hi) ∙ (ap (place_of xs) e ∙ x.2 j hj))
 
-  pub placed_less : (xs : List (Record K)) (m n : ℕ) → m ≤ n → Placed xs n → Placed xs m
-  placed_less xs m n h x =
-      ((let f = x.0 in omega arith), λ i im. x.1 i (omega arith), λ i im. x.2 i (omega arith))
-
   -- what is read of the record of an owner: the place that it notes is one of the first n, and names it
   pub key_where_named : (xs : List (Record K)) (n o : ℕ) (r d : Record K) → n ≤ length xs → o < length xs → r ≡ get_or xs o r → r.place < n → keys xs n o ≡ cond (eqb (get_or xs r.place d).owner o) (Some r.key) None
   unfolding keys is_in

@@ -1,12 +1,11 @@
 -- What a caller knows of a ledger's stacks besides what the calls say.
-use Rattle.std.proofs.Common.{◌≡◌, ℕ, ◌<◌, ◌≤◌, List, [], ◌∷◌, length, get_or, sym, ap, ◌∙◌, subst, arith}
+use Rattle.std.proofs.Common.{◌≡◌, ℕ, ◌<◌, ◌≤◌, [], length, get_or, sym, ap, ◌∙◌, subst, arith}
 use Rattle.ledger.specs.Stacks.{summed, Once}
 use Rattle.ledger.specs.Linked.{empty}
 use Rattle.ledger.specs.Ledgers.{stack_of}
 use Rattle.ledger.specs.declared.ledger.Ledger.{Ledger}
 use Rattle.ledger.proofs.Sums.{summed_same, summed_list, one_in}
 use Rattle.ledger.proofs.Downs.{length_stack, stack_past}
-use Rattle.ledger.proofs.Moves.{frame_within}
 
 module _ (l : Ledger) where
   pub few_frames : l.frames ≤ 4096
@@ -27,6 +26,3 @@ module _ (l : Ledger) where
   -- a number that is no owner's has no stack
   pub no_owner : (o : ℕ) → 257 ≤ o → stack_of l o ≡ []
   no_owner o h = stack_past l.links.below l.links.stacks o (let e = l.links.owners in omega arith)
-
-  pub top_within : (o f : ℕ) (rest : List ℕ) → o < 257 → stack_of l o ≡ f ∷ rest → (1 ≤ f) × (f ≤ l.frames)
-  top_within o f rest h e = frame_within (stack_of l) 257 l.frames o f rest h e frames_once

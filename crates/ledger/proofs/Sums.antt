@@ -27,12 +27,6 @@ summed_one g h (suc n) a l e =
       | inr d ↦ let r = summed_one g h n a (omega arith) e in let t = e n d in omega arith
     ]
 
--- the first owner apart from the others
-pub summed_front : (g : ℕ → ℕ) (n : ℕ) → summed g (suc n) ≡ g 0 + summed (λ o. g (suc o)) n
-unfolding summed
-summed_front g zero = refl
-summed_front g (suc n) = let r = summed_front g n in omega arith
-
 -- g with another value at a
 put : (ℕ → ℕ) → ℕ → ℕ → ℕ → ℕ
 put g a v o = cond (eqb o a) v (g o)
