@@ -1,5 +1,5 @@
 //! What the arguments ask for.
-ghost use Rattle.std.specs.Prelude.{◌≡◌, ◌&&◌, ◌||◌, map, length, string_bytes, ◌==◌, nat_lt, slice_index};
+ghost use Rattle.std.specs.Prelude.{map, string_bytes};
 ghost use Rattle.tariff.specs.Requests.{ReadsNumber, ReadsEstimate};
 ghost use Rattle.tariff.specs.Faults.{ReadsThree, Reads};
 
