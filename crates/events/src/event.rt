@@ -1,5 +1,5 @@
 //! Events, as lines say them.
-ghost use Rattle.std.specs.Prelude.{◌≡◌, ℕ, ◌^◌, ◌<◌, List, ◌∷◌, length, take, Ok, Result};
+ghost use Rattle.std.specs.Prelude.{◌≡◌, ℕ, ◌^◌, ◌<◌, ◌≤◌, List, ◌∷◌, length, take, Ok, Result};
 ghost use Rattle.rules.specs.declared.refusal.Refusal.{Refusal};
 ghost use Rattle.events.specs.Faults.{Verdict};
 ghost use Rattle.events.specs.Grammar.{count, spaced};
@@ -10,7 +10,7 @@ ghost use Rattle.text.specs.Texts.{Placed, cut, spelt};
 use crate::reader::Reader;
 use crate::word::EventKind;
 use rules::{Admission, Estimate, Refusal};
-use text::Text;
+use text::{Line, Text};
 
 /// What an event line says. The numbers are as they came: whether the broker takes them is for the broker to say.
 #[derive(Clone, Copy, PartialEq, Eq, Debug, Drop)]
@@ -82,7 +82,7 @@ pub fn read(line: &[u8]) -> Result<Event, Refusal>
 
 /// A letter and some numbers, each after one space.
 fn spell(letter: u8, numbers: &[u32]) -> Text
-    ensures line { spelt result ≡ cut (letter ∷ flat_map spaced numbers.now) }
+    ensures line { length numbers.now ≤ 11 → spelt result ≡ letter ∷ flat_map spaced numbers.now }
     ensures sized { AllByRecursion (λ n. n < 2 ^ 32) numbers.now }
 {
     let mut text = Text::new();
@@ -94,10 +94,11 @@ fn spell(letter: u8, numbers: &[u32]) -> Text
     text
 }
 
-impl Event {
-    /// The event's line.
+impl Line for Event {
+    ghost spelling = { written };
+
     fn line(&self) -> Text
-        ensures line { spelt result ≡ cut (written self.now) }
+        ensures line { spelt result ≡ written self.now }
         ensures sized { Sized self.now }
     {
         match *self {
@@ -113,7 +114,9 @@ impl Event {
             Event::Clock { tick } => spell(b'T', &[tick]),
         }
     }
+}
 
+impl Event {
     /// Writes the event's line to the front of a lent buffer and answers its length. A buffer too short for it stays
     /// as it was. What is written reads as the same event again.
     pub fn write(&self, out: &mut [u8]) -> Result<usize, Refusal>

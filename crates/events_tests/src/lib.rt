@@ -6,6 +6,7 @@ mod tests {
     use events::{Event, LineFault, Lines, read};
     use rules::{Admission, Estimate, Fault, FaultKind, Refusal};
     use std::test::Fail;
+    use text::Line;
 
     // The bytes of a literal, as a slice.
     fn text(bytes: &'static [u8]) -> &'static [u8] {

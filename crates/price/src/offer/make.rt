@@ -9,6 +9,7 @@ use rules::{Offer, Refusal};
 impl ValidOffer {
     /// The offer of a client with these shares, this class and this active count or none, at a count of frames. Shares
     /// outside 1 to 1,000,000, a class above 9 and a count outside 1 to 4,096 are refused, in this order.
+    // Kept: four numbers, and no `TryFrom<Offer>`: an offer's class has 8 bits, the input's 32, and 256 is refused, not cut.
     pub fn new(
         shares: u32,
         class: u32,
@@ -17,13 +18,13 @@ impl ValidOffer {
     ) -> Result<ValidOffer, Refusal>
         ensures { Replies (offer_entries shares class count) (λ o. o.offer ≡ record { shares = shares; class = class; active = active; count = count }) result }
     {
-        if shares < 1 || shares > 1_000_000 {
+        if !(1..=1_000_000).contains(&shares) {
             return Err(Refusal::SharesOutOfRange);
         }
         if class > 9 {
             return Err(Refusal::ClassOutOfRange);
         }
-        if count < 1 || count > 4_096 {
+        if !(1..=4_096).contains(&count) {
             return Err(Refusal::CountOutOfRange);
         }
         Ok(ValidOffer::known(Offer {
