@@ -23,9 +23,7 @@ use Rattle.pool.proofs.Tables.{noted_true}
 use Rattle.price.specs.declared.key.Ranked.{Ranked}
 use Rattle.price.specs.Keys.{Keyed, KeyOf}
 use Rattle.broker.specs.declared.payers.Payers.{Payers}
-use Rattle.broker.specs.Bids.{offer_at, listed, Lists}
-use Rattle.broker.specs.View as broker
-use Rattle.broker.specs.View.{Broker, Relisted}
+use Rattle.broker.specs.Bids.{offer_at, listed, Lists, Relisted}
 
 module _ (b : Pool) (c : ℕ) (x : Member) (e : by_number b.members c ≡ Some x) where
   pub noted_holding : holding (view b) c ≡ length (stack_of b.ledger c)
@@ -33,9 +31,6 @@ module _ (b : Pool) (c : ℕ) (x : Member) (e : by_number b.members c ≡ Some x
 
   pub noted_least : minimum_of (present (view b)) c ≡ x.minimum
   noted_least = ap (λ (o : Option Member). (terms (terms_of (client_of o (stack_of b.ledger c)))).minimum) e
-
-  pub noted_most : rules.maximum_of (view b) c ≡ x.maximum
-  noted_most = ap (λ (o : Option Member). (terms (terms_of (client_of o (stack_of b.ledger c)))).maximum) e
 
   pub noted_key : (m : Meaning) (k : ℕ) (r : Ranked) → Keyed m c x.minimum (offer_at x k) r → KeyOf m (bid_of (present (view b)) c k) r
   noted_key m k r h = subst (λ (o : Option Member). KeyOf m (bid_at c (terms (terms_of (client_of o (stack_of b.ledger c)))) k) r) (sym e) h
@@ -75,12 +70,9 @@ refused_not_beyond b c Q (Ok x) h never far = never x refl
 refused_not_beyond b c Q (Err r) h never far = not_beyond b c r h far
 
 -- a client whose listed bid is replaced by what it bids now, or taken out where it bids nothing, is listed anew
-pub anew : {P : Type 0} (meaning : P → Meaning) (before : Broker P) (c : ℕ) (w : Option Ranked) (q : Payers) → ((d : ℕ) → listed q d ≡ put (listed before.payers) c w d) →
-    Lists (meaning before.price) (broker.view before) c w → Relisted meaning before c (record { price = before.price; pool = before.pool; payers = q })
-anew meaning before c w q now l =
+pub anew : (m : Meaning) (v : rules.Broker) (c : ℕ) (w : Option Ranked) (before after : Payers) → ((d : ℕ) → listed after d ≡ put (listed before) c w d) → Lists m v c w → Relisted m v c before after
+anew m v c w before after now l =
     record {
-      price = refl;
-      pool = refl;
-      others = λ d ne. now d ∙ put_off (listed before.payers) c w d ne;
-      anew = subst (Lists (meaning before.price) (broker.view before) c) (sym (now c ∙ put_at (listed before.payers) c w)) l;
+      others = λ d ne. now d ∙ put_off (listed before) c w d ne;
+      anew = subst (Lists m v c) (sym (now c ∙ put_at (listed before) c w)) l;
     }

@@ -4,7 +4,10 @@
 -- listed     the bid of a client, if it is in
 -- Lists      what is listed of a client: its bid at its holding where it holds more than its minimum, and nothing else
 -- Listed     so it is for every number
-use Rattle.std.specs.Prelude.{ℕ, Some, None, Option}
+-- Relisted   one client was listed anew, and no other
+use Rattle.std.specs.Prelude.{◌≡◌, ℕ, ◌≢◌, Some, None, Option}
+use Rattle.std.specs.Coded.{Π_prop}
+use Rattle.std.proofs.Props.{props}
 use Rattle.rules.specs.declared.offer.Offer.{Offer}
 use Rattle.rules.specs.Offers.{Meaning}
 use Rattle.laws.specs.Division.{bid_of}
@@ -28,3 +31,15 @@ Lists m v c (Some k) = Beyond v c × KeyOf m (bid_of (present v) c (holding v c)
 
 abbrev pub Listed : Meaning → rules.Broker → (ℕ → Option Ranked) → Type 0
 Listed m v ks = (c : ℕ) → Lists m v c (ks c)
+
+pub record Relisted (m : Meaning) (v : rules.Broker) (c : ℕ) (before after : Payers) : Type 0 where
+  pub others : (d : ℕ) → d ≢ c → listed after d ≡ listed before d
+  pub anew : Lists m v c (listed after c)
+
+-- What is listed is so in one way at most, so that a broker can keep it.
+Lists-prop : (m : Meaning) (v : rules.Broker) (c : ℕ) (o : Option Ranked) → IsProp (Lists m v c o)
+Lists-prop m v c None = hlevel props
+Lists-prop m v c (Some k) = hlevel props
+
+pub Listed-prop : (m : Meaning) (v : rules.Broker) (ks : ℕ → Option Ranked) → IsProp (Listed m v ks)
+Listed-prop m v ks = Π_prop (λ c. Lists-prop m v c (ks c))

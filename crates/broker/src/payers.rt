@@ -7,6 +7,9 @@ use heap::Record;
 use price::Ranked;
 
 mod bids;
+mod relist;
+
+pub(crate) use relist::bid;
 
 /// A heap of bids by client number, in fixed memory.
 #[derive(Drop)]
@@ -20,6 +23,6 @@ pub(crate) struct Payers {
 /// One of them, with its bid.
 #[derive(Clone, Copy, Drop)]
 pub(crate) struct Payer {
-    pub(crate) client: usize,
+    pub(crate) client: u32,
     pub(crate) bid: Ranked,
 }

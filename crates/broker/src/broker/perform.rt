@@ -1,7 +1,7 @@
 //! Calls as plain values.
 ghost use Rattle.std.specs.Prelude.{◌≡◌};
 ghost use Rattle.pool.specs.View.{done, handed, counted};
-ghost use Rattle.broker.specs.View.{granted, Called};
+ghost use Rattle.broker.specs.View.{granted, Stepped};
 
 use super::Broker;
 use price::Price;
@@ -50,7 +50,7 @@ fn answer_count(outcome: Result<u32, Refusal>) -> Answer
 impl<P: Price> Broker<P> {
     /// Performs a call that is given as plain numbers, a slip by its five numbers, right or wrong.
     pub fn perform(&mut self, call: Call) -> Answer
-        ensures { Called P.Price.meaning self.old call result self.new }
+        ensures { Stepped self.old call result self.new }
     {
         match call {
             Call::Start { unit, frames } => answer_done(self.start(unit, frames)),

@@ -53,11 +53,12 @@ impl Payers {
 
     // The client with the lowest bid, if anybody has one.
     pub(crate) fn lowest(&self) -> Option<Payer>
-        ensures { MatchOption result ((o : ℕ) → listed self.now o ≡ None) (λ p. (p.client < 257) × Least leads (listed self.now) p.client p.bid) }
+        ensures { MatchOption result ((c : ℕ) → listed self.now c ≡ None) (λ p. Least leads (listed self.now) p.client p.bid) }
     {
-        match heap::root(&self.records, self.count) {
-            Some((client, bid)) => Some(Payer { client, bid: *bid }),
-            None => None,
-        }
+        let (client, bid) = heap::root(&self.records, self.count)?;
+        Some(Payer {
+            client: client as u32,
+            bid: *bid,
+        })
     }
 }
