@@ -1,5 +1,5 @@
 -- A clock that drops one estimate after another makes one step.
-use Rattle.std.proofs.Common.{◌≡◌, ℕ, zero, suc, ◌+◌, ◌≤◌, Bool, true, false, cond, leb, Some, None, Option, sym, refl, ap, ◌∙◌, arith}
+use Rattle.std.proofs.Common.{◌≡◌, ℕ, zero, suc, ◌+◌, ◌≤◌, Bool, true, false, cond, leb, Some, None, Ok, Option, sym, refl, ap, ◌∙◌, arith}
 use mathlib.Core.Path.{fun_ext}
 use Rattle.rules.specs.Offers.{Meaning}
 use Rattle.laws.specs.ByNumber.{upto, total, Numbered, put}
@@ -78,6 +78,6 @@ pub few_end : (t : ℕ) (cs : ℕ → Option Client) → total (λ c. ends t (cs
 few_end t cs = few_upto 256 (λ c. ends t (cs c)) (λ c. ends_one t (cs c))
 
 pub clock_step : (m : Meaning) (b : Broker) (t n : ℕ) (ds : ℕ → Option Client) → IsClear m b (SetClock t) → Clocked t b.clients n ds → ((c : ℕ) → ends t (ds c) ≡ 0) →
-    Step m b (SetClock t) (Count n) (record { unit = b.unit; frames = b.frames; tick = t; asks = b.asks; free = b.free; clients = ds; passage = b.passage })
+    Step m b (SetClock t) (Ok (Count n)) (record { unit = b.unit; frames = b.frames; tick = t; asks = b.asks; free = b.free; clients = ds; passage = b.passage })
 clock_step m b t n ds clear k h =
     let all = clocked_all t b.clients n ds k h in rw (all.0, all.1) (Calls.clocked clear)

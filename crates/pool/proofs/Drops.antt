@@ -5,8 +5,7 @@ use Rattle.laws.specs.Broker.{SlipNumbers}
 use Rattle.laws.specs.Calls.{ended, ends}
 use Rattle.ledger.specs.declared.ledger.Ledger.{Ledger}
 use Rattle.ledger.specs.Ledgers.{stack_of}
-use Rattle.pool.specs.declared.ends.Ends.{Ends}
-use Rattle.pool.specs.Ends.{end_of, Earliest}
+use Rattle.pool.specs.Ends.{Earliest}
 use Rattle.pool.specs.Members.{Member, end_in, EndsNoted}
 use Rattle.pool.specs.View.{client_of}
 use Rattle.pool.specs.Clocks.{Dropped}
@@ -21,13 +20,13 @@ end_seen : (o : Option Member) (fs : List ℕ) → client_end (client_of o fs) �
 end_seen (Some x) fs = refl
 end_seen None fs = refl
 
-module _ (xs : List (Option Member)) (es : Ends) (noted : EndsNoted xs es) (s : ℕ → List ℕ) (t : ℕ) where
-  same : (c : ℕ) → end_of es c ≡ client_end (clients_of xs s c)
+module _ (xs : List (Option Member)) (es : ℕ → Option ℕ) (noted : EndsNoted xs es) (s : ℕ → List ℕ) (t : ℕ) where
+  same : (c : ℕ) → es c ≡ client_end (clients_of xs s c)
   same c = from_noted xs es noted c ∙ sym (end_seen (by_number xs c) (s c))
 
   -- where the first end is after t, no estimate of the table ends by t
-  pub nobody_ends_yet : (c e : ℕ) → Earliest (end_of es) c e → t < e → (d : ℕ) → ends t (clients_of xs s d) ≡ 0
-  nobody_ends_yet = none_ends_yet (end_of es) (clients_of xs s) same t
+  pub nobody_ends_yet : (c e : ℕ) → Earliest es c e → t < e → (d : ℕ) → ends t (clients_of xs s d) ≡ 0
+  nobody_ends_yet = none_ends_yet es (clients_of xs s) same t
 
 -- an ended estimate is dropped from the table
 pub drop_one : (u t n k : ℕ) (p : Option SlipNumbers) (xs : List (Option Member)) (l : Ledger) (c : ℕ) (x : Member) → length xs ≡ 256 → Numbered c → by_number xs c ≡ Some x → ended k x.estimate ≡ 1 →

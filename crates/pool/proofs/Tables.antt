@@ -1,5 +1,5 @@
 -- The table of clients, with one place changed.
-use Rattle.std.proofs.Common.{◌≡◌, ℕ, zero, suc, ◌-◌, ◌*◌, ◌/◌, ◌^◌, ◌<◌, ◌≤◌, true, ◌≢◌, List, [], length, get_or, set, Some, None, Option, sym, refl, ap, ◌∙◌, subst, inl, inr, mul-le-mul, div-le_self, arith}
+use Rattle.std.proofs.Common.{◌≡◌, ℕ, zero, suc, ◌-◌, ◌*◌, ◌/◌, ◌^◌, ◌<◌, ◌≤◌, true, ◌≢◌, List, [], length, get_or, set, Some, None, Ok, Option, sym, refl, ap, ◌∙◌, subst, mul-le-mul, div-le_self, arith}
 use mathlib.Core.Path.{fun_ext}
 use Rattle.std.proofs.lemmas.List.{get_or-set_same, get_or-set_other}
 use Rattle.std.proofs.lemmas.Bool.Decides.{nat_tests}
@@ -9,7 +9,7 @@ use Rattle.laws.specs.ByNumber.{total, Numbered, put, by_number}
 use Rattle.laws.specs.Broker as rules
 use Rattle.laws.specs.Broker.{SlipNumbers}
 use Rattle.laws.specs.Division.{terms}
-use Rattle.laws.specs.Calls.{Admit, Done, Step, admitted, IsClear}
+use Rattle.laws.specs.Calls.{Admission, Admit, Done, Step, admitted, IsClear}
 use Rattle.laws.proofs.Kept.{none_some, inside}
 use Rattle.laws.proofs.Puts.{put_at, put_off, each_but}
 use Rattle.laws.proofs.Sums.{at_le_upto}
@@ -69,22 +69,25 @@ shares_among xs s c x i e =
     let its = ap (λ (o : Option Member). (terms (rules.terms_of (client_of o (s c)))).shares) e in
     omega (arith, one, its)
 
-pub admit_step : (m : Meaning) (u t n : ℕ) (p : Option SlipNumbers) (xs : List (Option Member)) (l : Ledger) (c shares class minimum maximum : ℕ) → length xs ≡ 256 → NoStray xs l →
-    IsClear m (seen u t n p xs l) (Admit c shares class minimum maximum) →
-    Step m (seen u t n p xs l) (Admit c shares class minimum maximum) Done (seen u t n p (set xs (c - 1) (Some (record { shares = shares; class = class; minimum = minimum; maximum = maximum; estimate = None }))) l)
-admit_step m u t n p xs l c shares class minimum maximum long stray clear =
-    let low : c < 1 → ⊥ = λ h. clear.0 (inl h) in
-    let high : 256 < c → ⊥ = λ h. clear.0 (inr h) in
-    let i : c ≡ suc (c - 1) = omega arith in
+-- a new client, as it is noted
+abbrev pub new_member : Admission → Member
+new_member a = record { shares = a.shares; class = a.class; minimum = a.minimum; maximum = a.maximum; estimate = None }
+
+pub admit_step : (m : Meaning) (u t n : ℕ) (p : Option SlipNumbers) (xs : List (Option Member)) (l : Ledger) (a : Admission) → length xs ≡ 256 → NoStray xs l →
+    IsClear m (seen u t n p xs l) (Admit a) →
+    Step m (seen u t n p xs l) (Admit a) (Ok Done) (seen u t n p (set xs (a.client - 1) (Some (new_member a))) l)
+admit_step m u t n p xs l a long stray clear =
+    let c = a.client in
+    let h = inside 1 256 c clear.0 in
+    let i : c ≡ suc (c - 1) = omega (arith, h) in
     let none : by_number xs c ≡ None = not_there (by_number xs c) (stack_of l c) clear.1.1.1.1.1.0 in
     let empty : stack_of l c ≡ [] = subst (λ (d : ℕ). stack_of l d ≡ []) (sym i) (stray (c - 1) (subst (λ (d : ℕ). by_number xs d ≡ None) i none)) in
-    let x : Member = record { shares = shares; class = class; minimum = minimum; maximum = maximum; estimate = None } in
-    let after = set_clients xs (stack_of l) c (c - 1) (Some x) i (omega arith) ∙ ap (λ (fs : List ℕ). put (clients_of xs (stack_of l)) c (client_of (Some x) fs)) empty in
-    subst (λ (d : rules.Broker). Step m (seen u t n p xs l) (Admit c shares class minimum maximum) Done d) (sym (same_parts u l.frames t n p refl refl after)) (admitted clear)
+    let after = set_clients xs (stack_of l) c (c - 1) (Some (new_member a)) i (omega (arith, h, long)) ∙ ap (λ (fs : List ℕ). put (clients_of xs (stack_of l)) c (client_of (Some (new_member a)) fs)) empty in
+    subst (λ (d : rules.Broker). Step m (seen u t n p xs l) (Admit a) (Ok Done) d) (sym (same_parts u l.frames t n p refl refl after)) (admitted clear)
 
 -- what a new client is noted with is in its ranges
-pub new_ranges : (shares class minimum maximum : ℕ) → (Outside 1 1_000_000 shares → ⊥) → (9 < class → ⊥) → maximum ≤ 4_096 → in_ranges (Some (record { shares = shares; class = class; minimum = minimum; maximum = maximum; estimate = None })) ≡ true
-new_ranges shares class minimum maximum h k few = let r = inside 1 1_000_000 shares h in let q : class ≤ 9 = omega arith in grind (arith, nat_tests, r, q, few)
+pub new_ranges : (a : Admission) → (Outside 1 1_000_000 a.shares → ⊥) → (9 < a.class → ⊥) → a.maximum ≤ 4_096 → in_ranges (Some (new_member a)) ≡ true
+new_ranges a h k few = let r = inside 1 1_000_000 a.shares h in let q : a.class ≤ 9 = omega arith in grind (arith, nat_tests, r, q, few)
 
 -- a proportional share fits 32 bits
 pub small_share : (F s all : ℕ) → F ≤ 4_096 → s ≤ 1_000_000 → F * s / all < 2 ^ 32

@@ -13,8 +13,6 @@ use Rattle.laws.specs.ByNumber.{by_number}
 use Rattle.laws.specs.Broker.{Estimate}
 use Rattle.ledger.specs.declared.ledger.Ledger.{Ledger}
 use Rattle.ledger.specs.Ledgers.{stack_of}
-use Rattle.pool.specs.declared.ends.Ends.{Ends}
-use Rattle.pool.specs.Ends.{end_of}
 pub use Rattle.pool.specs.declared.member.Member.{Member}
 
 abbrev pub in_ranges : Option Member → Bool
@@ -42,5 +40,5 @@ same_tick None None = true
 same_tick (Some s) None = false
 same_tick None (Some t) = false
 
-abbrev pub EndsNoted : List (Option Member) → Ends → Type 0
-EndsNoted xs es = (c : ℕ) → same_tick (end_of es c) (end_in (by_number xs c)) ≡ true
+abbrev pub EndsNoted : List (Option Member) → (ℕ → Option ℕ) → Type 0
+EndsNoted xs es = (c : ℕ) → same_tick (es c) (end_in (by_number xs c)) ≡ true

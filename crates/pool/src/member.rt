@@ -19,10 +19,7 @@ impl Member {
     pub fn active(&self) -> Option<u32>
         ensures { result ≡ active_of self.now.estimate }
     {
-        match self.estimate {
-            Some(estimate) => Some(estimate.active),
-            None => None,
-        }
+        self.estimate.map(|estimate| estimate.active)
     }
 
     /// Whether so many frames are fewer than its minimum.

@@ -19,10 +19,7 @@ impl Pool {
         if client < 1 || client > 256 {
             return Err(Refusal::ClientOutOfRange);
         }
-        let Some(member) = self.members[client as usize - 1] else {
-            return Err(Refusal::NotAdmitted);
-        };
-        Ok(member)
+        self.members[client as usize - 1].ok_or(Refusal::NotAdmitted)
     }
 
     /// How many frames lie in a client's stack, and for 0 in the free stack.
@@ -78,12 +75,8 @@ impl Pool {
     pub fn next_client(&self, after: u32) -> Option<u32>
         ensures { NextClient (view self.now) after result }
     {
-        for place in after as usize..256 {
-            let noted = self.members[place];
-            if noted.is_some() {
-                return Some(place as u32 + 1);
-            }
-        }
-        None
+        (after..256)
+            .find(|&place| self.members[place as usize].is_some())
+            .map(|place| place + 1)
     }
 }

@@ -4,6 +4,8 @@ use Rattle.laws.specs.Calls.{refused}
 use Rattle.laws.proofs.Kept.{inside}
 use Rattle.pool.proofs.Tables.{set_ranges, set_stray, noted_true}
 use Rattle.pool.proofs.Changes.{estimate_step}
+use Rattle.pool.specs.Ends.{end_of}
+use Rattle.pool.proofs.Ticks.{tick_put}
 use Rattle.pool.proofs.Noted.{set_noted}
 use Rattle.pool.proofs.pool.Pool.estimate.Goals as goal
 
@@ -22,11 +24,11 @@ invariant_of-self c =
       places = length-set b.members (c.args.client - 1) _ ∙ b.places;
       ranges = set_ranges b.members (c.args.client - 1) _ i (noted_true b.members b.ranges c.args.client c.in_ok-member.member found.1) b.ranges;
       stray = set_stray b.members b.ledger (c.args.client - 1) _ i b.stray;
-      noted = set_noted b.members b.ends c.put.new.self c.args.client (c.args.client - 1) _ (omega (arith, n)) i c.put.ensures (omega arith) (ap Some (omega arith)) b.noted;
+      noted = set_noted b.members (end_of b.ends) (end_of c.put.new.self) c.args.client (c.args.client - 1) _ (omega (arith, n)) i (tick_put _ _ _ _ c.put.ensures) (omega arith) (ap Some (omega arith)) b.noted;
     }
 
 pub returns : goal.returns
 returns c =
     let b = c.args.self.now in
     let found = c.in_ok-member.ensures in
-    λ m. (estimate_step m b.unit b.tick b.asks b.passage b.members b.ledger c.args.client c.args.active c.args.end c.in_ok-member.member b.places found.1 found.0)
+    λ m. (estimate_step m b.unit b.tick b.asks b.passage b.members b.ledger c.args.client c.args.estimate c.in_ok-member.member b.places found.1 found.0)

@@ -4,6 +4,8 @@ use Rattle.laws.specs.Calls.{refused}
 use Rattle.laws.proofs.Kept.{inside}
 use Rattle.pool.proofs.Tables.{set_ranges}
 use Rattle.pool.proofs.Changes.{left_stray, leave_step}
+use Rattle.pool.specs.Ends.{end_of}
+use Rattle.pool.proofs.Ticks.{tick_put}
 use Rattle.pool.proofs.Noted.{set_noted}
 use Rattle.pool.proofs.pool.Pool.leave.Goals as goal
 
@@ -23,7 +25,7 @@ invariant_of-self c =
       places = length-set b.members (c.args.client - 1) _ ∙ b.places;
       ranges = set_ranges b.members (c.args.client - 1) None i refl b.ranges;
       stray = left_stray b.members b.ledger c.release-frames.new.self c.args.client c.release-frames.result c.in_ok-caller.field-0 (omega (arith, n)) i found.1 v b.stray;
-      noted = set_noted b.members b.ends c.take.new.self c.args.client (c.args.client - 1) None (omega (arith, n)) i c.take.ensures (omega arith) refl b.noted;
+      noted = set_noted b.members (end_of b.ends) (end_of c.take.new.self) c.args.client (c.args.client - 1) None (omega (arith, n)) i (tick_put _ _ _ _ c.take.ensures) (omega arith) refl b.noted;
     }
 
 pub returns : goal.returns
