@@ -72,7 +72,7 @@ module _ {P : Type 0} {g : Ghosts P} (b : Broker P g) (c : ℕ) (clear : Clear (
 
 -- a frame that was granted from where it may come from is a step
 pub granted_step : {P : Type 0} {g : Ghosts P} (b : Broker P g) (c : ℕ) {p : ℕ} {o : Option SlipNumbers} {s : SlipNumbers} {w : rules.Broker} → Sourced b c (Ok p) → Grants (view b) c p o w → o ≡ Some s →
-    Step (meaning b) (view b) (Ask c) (Granted s) w
+    Step (meaning b) (view b) (Ask c) (Ok (Granted s)) w
 granted_step b c {p} {o} {s} {w} from grants e =
     let given : Grants (view b) c p (Some s) w = subst (λ (o : Option SlipNumbers). Grants (view b) c p o w) e grants in
     given (meaning b) from.0 from.1.0 from.1.1

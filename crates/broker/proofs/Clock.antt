@@ -1,5 +1,5 @@
 -- The clock, one ended estimate after another.
-use Rattle.std.proofs.Common.{◌≡◌, ℕ, ◌+◌, ◌<◌, ◌≤◌, Some, None, Option, sym, ap, ◌∙◌, subst, arith}
+use Rattle.std.proofs.Common.{◌≡◌, ℕ, ◌+◌, ◌<◌, ◌≤◌, Some, None, Ok, Option, sym, ap, ◌∙◌, subst, arith}
 use Rattle.laws.specs.ByNumber.{total, put}
 use Rattle.laws.specs.Broker as rules
 use Rattle.laws.specs.Calls.{SetClock, Count, Step, IsClear, moved, ends, with_estimate}
@@ -63,9 +63,9 @@ module _ {P : Type 0} {g : Ghosts P} where
 
   -- all ended estimates dropped, and the tick set
   pub clock_stepped : (t : ℕ) (b : Broker P g) (n : ℕ) (e d : Broker P g) → IsClear (meaning b) (view b) (SetClock t) → Dropping t b n e → ((c : ℕ) → ends t ((view e).clients c) ≡ 0) →
-      view d ≡ at_tick (view e) t → d.price ≡ e.price → Stepped b (SetClock t) (Count n) d
+      view d ≡ at_tick (view e) t → d.price ≡ e.price → Stepped b (SetClock t) (Ok (Count n)) d
   clock_stepped t b n e d clear all none set price =
       stepped b d
-      (subst (λ (v : rules.Broker). Step (meaning b) (view b) (SetClock t) (Count n) v) (sym (set ∙ ap (λ (v : rules.Broker). at_tick v t) all.rest))
+      (subst (λ (v : rules.Broker). Step (meaning b) (view b) (SetClock t) (Ok (Count n)) v) (sym (set ∙ ap (λ (v : rules.Broker). at_tick v t) all.rest))
       (clock_step (meaning b) (view b) t n (view e).clients clear all.clocked none))
       (price ∙ all.price)

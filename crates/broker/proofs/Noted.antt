@@ -1,5 +1,6 @@
 -- What is noted of a client in the pool, and what the rules say of it.
-use Rattle.std.proofs.Common.{◌≡◌, ℕ, ◌<◌, ◌≤◌, true, length, Some, Ok, Err, Option, Result, sym, refl, ap, ◌∙◌, subst, inl, inr, arith}
+use Rattle.std.proofs.Common.{◌≡◌, ℕ, ◌<◌, ◌≤◌, true, eqb, length, Some, Ok, Err, Option, Result, sym, refl, ap, ◌∙◌, subst, inl, inr, arith}
+use Rattle.std.specs.Map.{update}
 use Rattle.rules.specs.declared.refusal.Refusal.{Refusal}
 use Rattle.rules.specs.Refusals.{First, Replies}
 use Rattle.rules.specs.Offers.{Meaning, Valid}
@@ -19,6 +20,7 @@ use Rattle.pool.specs.Members.{in_ranges}
 use Rattle.pool.specs.declared.pool.Pool.{Pool}
 use Rattle.pool.specs.View.{client_of, view}
 use Rattle.pool.proofs.Grants.{holder, noted_numbered}
+use Rattle.pool.proofs.Ticks.{update_put}
 use Rattle.pool.proofs.Tables.{noted_true}
 use Rattle.price.specs.declared.key.Ranked.{Ranked}
 use Rattle.price.specs.Keys.{Keyed, KeyOf}
@@ -70,9 +72,10 @@ refused_not_beyond b c Q (Ok x) h never far = never x refl
 refused_not_beyond b c Q (Err r) h never far = not_beyond b c r h far
 
 -- a client whose listed bid is replaced by what it bids now, or taken out where it bids nothing, is listed anew
-pub anew : (m : Meaning) (v : rules.Broker) (c : ℕ) (w : Option Ranked) (before after : Payers) → ((d : ℕ) → listed after d ≡ put (listed before) c w d) → Lists m v c w → Relisted m v c before after
+pub anew : (m : Meaning) (v : rules.Broker) (c : ℕ) (w : Option Ranked) (before after : Payers) → ((d : ℕ) → listed after d ≡ update eqb (listed before) c w d) → Lists m v c w → Relisted m v c before after
 anew m v c w before after now l =
+    let there : (d : ℕ) → listed after d ≡ put (listed before) c w d = λ d. now d ∙ update_put (listed before) c w d in
     record {
-      others = λ d ne. now d ∙ put_off (listed before) c w d ne;
-      anew = subst (Lists m v c) (sym (now c ∙ put_at (listed before) c w)) l;
+      others = λ d ne. there d ∙ put_off (listed before) c w d ne;
+      anew = subst (Lists m v c) (sym (there c ∙ put_at (listed before) c w)) l;
     }

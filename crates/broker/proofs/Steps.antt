@@ -1,6 +1,7 @@
 -- A step carries every history on.
-use Rattle.std.proofs.Common.{◌≡◌, List, ◌∷◌, sym, subst}
+use Rattle.std.proofs.Common.{◌≡◌, List, ◌∷◌, Result, sym, subst}
 use Rattle.rules.specs.Offers.{Meaning, Lawful}
+use Rattle.rules.specs.declared.refusal.Refusal.{Refusal}
 use Rattle.laws.specs.Broker as rules
 use Rattle.laws.specs.Calls.{Call, Answer, Step}
 use Rattle.laws.specs.Histories.{Event, event, Run, then}
@@ -11,7 +12,7 @@ use Rattle.broker.specs.View.{Broker, meaning, view, Led, Guaranteed, Stepped}
 pub guaranteed : (m : Meaning) → Lawful m → Guaranteed m
 guaranteed m l h b r = histories_keep_guarantees m l h b r
 
-module _ {P : Type 0} {g : Ghosts P} (before after : Broker P g) {x : Call} {a : Answer} where
+module _ {P : Type 0} {g : Ghosts P} (before after : Broker P g) {x : Call} {a : Result Answer Refusal} where
   -- a step of the rules, under a price that stays, carries on every history
   pub stepped : Step (meaning before) (view before) x a (view after) → after.price ≡ before.price → Stepped before x a after
   stepped s e =

@@ -13,7 +13,7 @@ use Rattle.rules.specs.Offers.{Meaning}
 use Rattle.laws.specs.Division.{bid_of}
 use Rattle.laws.specs.Broker as rules
 use Rattle.laws.specs.Broker.{active_of, present, holding, Beyond}
-use Rattle.heap.specs.Heaps.{keys}
+use Rattle.heap.specs.Indexed.{keys_in}
 use Rattle.pool.specs.declared.member.Member.{Member}
 use Rattle.price.specs.declared.key.Ranked.{Ranked}
 use Rattle.price.specs.Keys.{KeyOf}
@@ -23,7 +23,7 @@ abbrev pub offer_at : Member → ℕ → Offer
 offer_at x k = record { shares = x.shares; class = x.class; active = active_of x.estimate; count = k }
 
 abbrev pub listed : Payers → ℕ → Option Ranked
-listed p c = keys p.records p.count c
+listed p = keys_in p.bids
 
 abbrev pub Lists : Meaning → rules.Broker → ℕ → Option Ranked → Type 0
 Lists m v c None = Beyond v c → ⊥

@@ -6,29 +6,26 @@
 -- History      events that lead from a new broker to this one, the latest first
 -- Led          a history leads to this broker
 -- Guaranteed   whatever is called on a new broker, its history keeps the three guarantees
--- asked, granted   the answer to an ask, by its slip or by the numbers of it
--- Unspent      the slip of an ask has not been delivered yet
--- Opens        an ask of a client that is granted opens the passage of its slip, and takes no frame of its own
--- delivery     the answer to a delivery
--- HandsBack    a refused delivery hands this slip back
+-- Opens        the slip of a client's ask opened its passage, and took no frame of its own
+-- delivered    the answer to a delivery
 -- Stepped      a call on a broker is a step of the rules, and leaves the price
 -- Dropping     estimates that end by a tick were dropped, so many, and their clients were listed anew
 -- Ended        so were all of them
 -- Sourced      where the frame of an ask comes from, or why there is none
-use Rattle.std.specs.Prelude.{◌≡◌, ℕ, false, ◌≢◌, List, ◌∷◌, Some, Ok, Err, Result}
+use Rattle.std.specs.Prelude.{◌≡◌, ℕ, ◌≢◌, List, ◌∷◌, Some, Result}
+use Rattle.std.specs.Result.{result_map_both}
 use Rattle.rules.specs.Offers.{Meaning}
 use Rattle.rules.specs.Refusals.{Replies}
 use Rattle.rules.specs.declared.refusal.Refusal.{Refusal}
 use Rattle.laws.specs.Broker as rules
 use Rattle.laws.specs.Broker.{SlipNumbers}
-use Rattle.laws.specs.Calls.{Call, Ask, Answer, Done, Granted, Frame, Count, Refused, Step, moved, ends, entries}
+use Rattle.laws.specs.Calls.{Call, Ask, Answer, Done, Step, moved, ends, entries}
 use Rattle.laws.specs.Histories.{Event, event, Run}
 use Rattle.laws.specs.Guarantees.{Guarantees}
 use Rattle.price.specs.declared.telling.Price.{Ghosts}
 use Rattle.pool.specs.View as pool
 use Rattle.pool.specs.View.{Source}
 use Rattle.pool.specs.Clocks.{Clocked}
-use Rattle.broker.specs.declared.slip.Slip.{Slip}
 use Rattle.broker.specs.declared.slip.Undelivered.{Undelivered}
 pub use Rattle.broker.specs.declared.broker.Broker.{Broker}
 
@@ -50,38 +47,15 @@ Led h b = History (meaning b) h (view b)
 abbrev pub Guaranteed : Meaning → Type 0
 Guaranteed m = (h : List Event) (b : rules.Broker) → History m h b → Guarantees m h
 
-abbrev pub granted : Result SlipNumbers Refusal → Answer
-granted (Ok s) = Granted s
-granted (Err r) = Refused r
+abbrev pub Opens : {P : Type 0} {g : Ghosts P} → ℕ → SlipNumbers → Broker P g → Type 0
+Opens c s after = ((view after).passage ≡ Some s) × (s.former ≢ c)
 
-abbrev pub asked : Result Slip Refusal → Answer
-asked (Ok s) = Granted s.numbers
-asked (Err r) = Refused r
-
--- A slip that is let go unspent is refused, so an ask may answer none that is marked as spent.
-abbrev pub Unspent : Result Slip Refusal → Type 0
-Unspent (Ok s) = s.spent ≡ false
-Unspent (Err r) = Unit {0}
-
-abbrev pub Opens : {P : Type 0} {g : Ghosts P} → ℕ → Answer → Broker P g → Type 0
-Opens c Done after = Unit {0}
-Opens c (Granted s) after = ((view after).passage ≡ Some s) × (s.former ≢ c)
-Opens c (Frame f) after = Unit {0}
-Opens c (Count n) after = Unit {0}
-Opens c (Refused r) after = Unit {0}
-
--- A delivery that is refused hands the slip back, as it was.
-abbrev pub delivery : Result (Unit {0}) Undelivered → Answer
-delivery (Ok _) = Done
-delivery (Err u) = Refused u.refusal
-
-abbrev pub HandsBack : Slip → Result (Unit {0}) Undelivered → Type 0
-HandsBack s (Ok _) = Unit {0}
-HandsBack s (Err u) = u.slip ≡ s
+abbrev pub delivered : Result (Unit {0}) Undelivered → Result Answer Refusal
+delivered result = result_map_both (λ _. Done) (λ u. u.refusal) result
 
 -- A call may come in any history: whatever history led to the broker as it came, with this call and its answer leads to
 -- the broker as it is left, and keeps the three guarantees.
-pub record Stepped {P : Type 0} {g : Ghosts P} (before : Broker P g) (x : Call) (a : Answer) (after : Broker P g) : Type 0 where
+pub record Stepped {P : Type 0} {g : Ghosts P} (before : Broker P g) (x : Call) (a : Result Answer Refusal) (after : Broker P g) : Type 0 where
   pub step : Step (meaning before) (view before) x a (view after)
   pub price : after.price ≡ before.price
   pub history : (h : List Event) → Led h before → Led (event x a (view after) ∷ h) after

@@ -1,12 +1,12 @@
 //! Asks.
-ghost use Rattle.std.specs.Prelude.{◌≡◌, ◌+◌, ◌<◌, true, Some};
+ghost use Rattle.std.specs.Prelude.{◌≡◌, ◌+◌, ◌<◌, true, false, Some, IfOk};
 ghost use Rattle.rules.specs.Offers.{Valid};
-ghost use Rattle.laws.specs.Calls.{Ask};
+ghost use Rattle.laws.specs.Calls.{Ask, Granted, answered};
 ghost use Rattle.pool.specs.Members.{in_ranges};
 ghost use Rattle.pool.specs.View.{height};
 ghost use Rattle.price.specs.Keys.{Keyed};
 ghost use Rattle.broker.specs.Bids.{offer_at};
-ghost use Rattle.broker.specs.View.{meaning, asked, granted, Unspent, Opens, Sourced, Stepped};
+ghost use Rattle.broker.specs.View.{meaning, Opens, Sourced, Stepped};
 
 use super::Broker;
 use crate::payers;
@@ -47,8 +47,8 @@ impl<P: Price> Broker<P> {
 
     // Grants a client a frame, by the plain numbers of its slip.
     pub(crate) fn grant(&mut self, client: u32) -> Result<SlipNumbers, Refusal>
-        ensures step { Stepped self.old (Ask client) (granted result) self.new }
-        ensures opens { Opens client (granted result) self.new }
+        ensures step { Stepped self.old (Ask client) (answered Granted result) self.new }
+        ensures opens { IfOk result (λ s. Opens client s self.new) }
     {
         let from = self.source(client)?;
         let slip = self.pool.grant(client, from).ok_or(Refusal::Outbid)?;
@@ -61,9 +61,9 @@ impl<P: Price> Broker<P> {
     /// which has to be delivered. A client number outside 1 to 256 is refused, then any client while a passage is open,
     /// one that is not admitted, one that holds its maximum, and one that is outbid.
     pub fn ask(&mut self, client: u32) -> Result<Slip, Refusal>
-        ensures step { Stepped self.old (Ask client) (asked result) self.new }
-        ensures opens { Opens client (asked result) self.new }
-        ensures unspent { Unspent result }
+        ensures step { Stepped self.old (Ask client) (answered (λ s. Granted s.numbers) result) self.new }
+        ensures opens { IfOk result (λ s. Opens client s.numbers self.new) }
+        ensures unspent { IfOk result (λ s. s.spent ≡ false) }
     {
         let numbers = self.grant(client)?;
         Ok(Slip {

@@ -1,7 +1,6 @@
 //! The clock.
 ghost use Rattle.std.specs.Prelude.{◌≡◌};
-ghost use Rattle.laws.specs.Calls.{SetClock};
-ghost use Rattle.pool.specs.View.{counted};
+ghost use Rattle.laws.specs.Calls.{SetClock, Count, answered};
 ghost use Rattle.broker.specs.View.{Ended, Stepped};
 
 use super::Broker;
@@ -24,7 +23,7 @@ impl<P: Price> Broker<P> {
     /// Sets the clock to a tick, drops every estimate that ends by then, and answers how many. Any tick is refused while a
     /// passage is open, and then one before the clock.
     pub fn clock(&mut self, tick: u32) -> Result<u32, Refusal>
-        ensures { Stepped self.old (SetClock tick) (counted result) self.new }
+        ensures { Stepped self.old (SetClock tick) (answered Count result) self.new }
     {
         self.pool.clockable(tick)?;
         let ended = self.end_estimates(tick);

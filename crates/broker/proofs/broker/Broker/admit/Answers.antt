@@ -5,9 +5,7 @@ use Rattle.broker.proofs.Steps.{stepped}
 use Rattle.broker.proofs.broker.Broker.admit.Goals as goal
 
 pub invariant_of-self : goal.invariant_of-self
-invariant_of-self g c =
-    let b = c.args.self.now in
-    record { kept = admitted_listed b c.args.client c.args.shares c.args.class c.args.minimum c.args.maximum _ _ (c.admit.ensures (meaning b)) }
+invariant_of-self g c = let b = c.args.self.now in record { kept = admitted_listed b (c.admit.ensures (meaning b)) }
 
 pub returns : goal.returns
 returns g c = let b = c.args.self.now in stepped b _ (c.admit.ensures (meaning b)) refl

@@ -25,13 +25,13 @@ returns-in-Ok g c =
     let held = c.height-holding.ensures ∙ sym (noted_holding b n x e) in
     let far : Beyond (view b) n = omega (arith, held, noted_least b n x e, ltb-true x.minimum c.height-holding.result (sym c.if-is_beyond.ensures)) in
     let key = noted_key b n x e m c.height-holding.result c.bid-bid.result c.bid-bid.ensures.keyed in
-    anew m (view b) n (Some c.bid-bid.result) c.args.self.now c.put.new.self c.put.ensures (far, subst (λ (k : ℕ). KeyOf m (bid_of (present (view b)) n k) c.bid-bid.result) held key)
+    anew m (view b) n (Some c.bid-bid.result) c.args.self.now _ c.put.ensures (far, subst (λ (k : ℕ). KeyOf m (bid_of (present (view b)) n k) c.bid-bid.result) held key)
 
 pub returns-in_default : goal.returns-in_default
 returns-in_default g c =
     let b = c.args.pool.now in
     let n = c.args.client in
-    anew (g.P.Price.meaning c.args.price.now) (view b) n None c.args.self.now c.take.new.self c.take.ensures
+    anew (g.P.Price.meaning c.args.price.now) (view b) n None c.args.self.now _ c.take.ensures
     (elim c.in_default.branch [
       | in_default-via-in-Ok+else-is_beyond w ↦
           let x = w.in-Ok.member in
