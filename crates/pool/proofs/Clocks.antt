@@ -10,9 +10,6 @@ use Rattle.laws.proofs.Sums.{upto_same, upto_zero}
 use Rattle.laws.proofs.Puts.{put_each, put_sum}
 use Rattle.pool.specs.Clocks.{Clocked}
 
-pub clocked_none : (t : ℕ) (cs : ℕ → Option Client) → Clocked t cs 0 cs
-clocked_none t cs = record { last = λ c. refl; count = omega arith }
-
 -- an estimate that ends by the tick is dropped by it
 dropped : (t : ℕ) (v : Option Estimate) → ended t v ≡ 1 → lasts t v ≡ None
 dropped t (Some e) h = go (leb e.end t) h

@@ -15,7 +15,7 @@ use Rattle.ledger.specs.Ledgers.{stack_of}
 use Rattle.ledger.specs.Stacks.{Moved}
 use Rattle.pool.specs.Members.{Member}
 use Rattle.pool.specs.View.{client_of, Source}
-use Rattle.pool.proofs.Views.{clients_of, seen}
+use Rattle.pool.proofs.Views.{clients_of, seen, same_parts}
 use Rattle.pool.proofs.Changes.{client_with, moved_clients}
 
 -- a client that is there is noted
@@ -27,10 +27,6 @@ noted None fs h = absurd (h refl)
 pub holder : (o : Option Member) (fs : List ℕ) (n : ℕ) → n < length (rules.stack_of (client_of o fs)) → (x : Member) × (o ≡ Some x)
 holder (Some x) fs n h = (x, refl)
 holder None fs n h = absurd (omega (arith, h))
-
-same_grant : (u F t n : ℕ) (p : Option SlipNumbers) {G : ℕ} {fs gs : List ℕ} {cs ds : ℕ → Option rules.Client} → F ≡ G → fs ≡ gs → cs ≡ ds →
-    ◌≡◌ {A = rules.Broker} (record { unit = u; frames = F; tick = t; asks = n; free = fs; clients = cs; passage = p }) (record { unit = u; frames = G; tick = t; asks = n; free = gs; clients = ds; passage = p })
-same_grant u F t n p e f g = cc
 
 module _ (m : Meaning) (u t n : ℕ) (p : Option SlipNumbers) (xs : List (Option Member)) (l k : Ledger) (c f : ℕ) (same : k.frames ≡ l.frames) where
   abbrev before : rules.Broker
@@ -45,7 +41,7 @@ module _ (m : Meaning) (u t n : ℕ) (p : Option SlipNumbers) (xs : List (Option
       let it : before.clients c ≡ Some (client_with x (stack_of l c)) = ap (λ (o : Option Member). client_of o (stack_of l c)) e in
       let clients : clients_of xs (stack_of k) ≡ put before.clients c (Some (client_with x (f ∷ stack_of l c))) =
       moved_clients xs (stack_of l) (stack_of k) c (λ d a o. v.others d a o) ∙ (ap (λ (o : Option Member). put before.clients c (client_of o (stack_of k c))) e ∙ ap (λ (fs : List ℕ). put before.clients c (Some (client_with x fs))) v.given) in
-      subst (λ (d : rules.Broker). Step m before (Ask c) (Ok (Granted (slip before c f 0))) d) (sym (same_grant u k.frames t ((n + 1) % 2 ^ 64) (Some (slip before c f 0)) same refl clients))
+      subst (λ (d : rules.Broker). Step m before (Ask c) (Ok (Granted (slip before c f 0))) d) (sym (same_parts u k.frames t ((n + 1) % 2 ^ 64) (Some (slip before c f 0)) same refl clients))
       (granted_free {x = client_with x (stack_of l c)} clear it v.taken)
 
   granted_of_payer : (q : ℕ) (x y : Member) → by_number xs c ≡ Some x → by_number xs q ≡ Some y → q ≢ c → Moved (stack_of l) (stack_of k) q c f → before.free ≡ [] → MayTake m before c q → IsClear m before (Ask c) →
@@ -56,7 +52,7 @@ module _ (m : Meaning) (u t n : ℕ) (p : Option SlipNumbers) (xs : List (Option
       let no_client : 0 ≢ c = λ z. none_some refl (subst (λ (d : ℕ). by_number xs d ≡ Some x) (sym z) e) in
       let no_payer : 0 ≢ q = λ z. none_some refl (subst (λ (d : ℕ). by_number xs d ≡ Some y) (sym z) g) in
       let free : stack_of k 0 ≡ [] = v.others 0 no_payer no_client ∙ none in
-      subst (λ (d : rules.Broker). Step m before (Ask c) (Ok (Granted (slip before c f q))) d) (sym (same_grant u k.frames t ((n + 1) % 2 ^ 64) (Some (slip before c f q)) same free clients))
+      subst (λ (d : rules.Broker). Step m before (Ask c) (Ok (Granted (slip before c f q))) d) (sym (same_parts u k.frames t ((n + 1) % 2 ^ 64) (Some (slip before c f q)) same free clients))
       (granted_from {x = client_with x (stack_of l c)} {y = client_with y (stack_of l q)} clear it none may its v.taken)
     where
       X : Option rules.Client
@@ -93,16 +89,6 @@ module _ (m : Meaning) (u t n : ℕ) (p : Option SlipNumbers) (xs : List (Option
             let y = holder (by_number xs q) (stack_of l q) _ may.0.beyond in
             granted_of_payer q x.0 y.0 x.1 y.1 ne v none may clear
       ]
-
--- where a frame may come from, there is one
-pub no_source : (m : Meaning) (u t n : ℕ) (p : Option SlipNumbers) (xs : List (Option Member)) (l : Ledger) (c q : ℕ) → stack_of l q ≡ [] → Source m (seen u t n p xs l) c q → ⊥
-no_source m u t n p xs l c q none (inl (z, some)) = some (subst (λ (d : ℕ). stack_of l d ≡ []) z none)
-no_source m u t n p xs l c q none (inr (free, may)) =
-    let y = holder (by_number xs q) (stack_of l q) _ may.0.beyond in
-    let h = may.0.beyond in
-    let e = ap (λ (o : Option Member). length (rules.stack_of (client_of o (stack_of l q)))) y.1 in
-    let z = ap length none in
-    omega (arith, h, e, z)
 
 -- who is noted has a client number
 pub noted_numbered : (xs : List (Option Member)) → length xs ≡ 256 → (c : ℕ) (x : Member) → by_number xs c ≡ Some x → Numbered c

@@ -1,7 +1,7 @@
 //! The pool and what it always keeps.
 ghost use Rattle.std.specs.Prelude.{◌≡◌, length};
 ghost use Rattle.pool.specs.Ends.{end_of};
-ghost use Rattle.pool.specs.Members.{InRanges, NoStray, EndsNoted};
+ghost use Rattle.pool.specs.Members.{NoStray, EndsNoted};
 
 use crate::ends::End;
 use crate::member::Member;
@@ -27,7 +27,6 @@ pub struct Pool {
     ledger: Ledger,
     ends: IndexedHeap<End, 257>,
     ghost places: { length members ≡ 256 },
-    ghost ranges: { InRanges members },
     ghost stray: { NoStray members ledger },
     ghost noted: { EndsNoted members (end_of ends) },
 }

@@ -80,8 +80,7 @@ impl Pool {
         if self.passage.is_some() {
             return Err(Refusal::PassageOpen);
         }
-        let noted = self.members[client as usize - 1];
-        if noted.is_some() {
+        if self.is_admitted(client) {
             return Err(Refusal::AlreadyAdmitted);
         }
         let frames = self.ledger.frames() as u32;

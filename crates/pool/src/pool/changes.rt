@@ -69,11 +69,9 @@ impl Pool {
     pub fn estimate(&mut self, client: u32, estimate: Estimate) -> Result<(), Refusal>
         ensures { Steps self.old (SetEstimate client estimate) (answered (λ _. Done) result) self.new }
     {
-        let member = self.estimable(client, estimate)?;
-        self.members[client as usize - 1] = Some(Member {
-            estimate: Some(estimate),
-            ..member
-        });
+        let mut member = self.estimable(client, estimate)?;
+        member.estimate = Some(estimate);
+        self.members[client as usize - 1] = Some(member);
         self.ends.put(client as usize, End { tick: estimate.end });
         Ok(())
     }

@@ -40,11 +40,9 @@ impl Pool {
     pub fn drop_ended(&mut self, tick: u32) -> Option<u32>
         ensures { Drops tick (view self.old) result (view self.new) }
     {
-        let (client, member) = self.first_ended(tick)?;
-        self.members[client - 1] = Some(Member {
-            estimate: None,
-            ..member
-        });
+        let (client, mut member) = self.first_ended(tick)?;
+        member.estimate = None;
+        self.members[client - 1] = Some(member);
         self.ends.take(client);
         Some(client as u32)
     }

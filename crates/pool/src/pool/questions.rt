@@ -1,7 +1,7 @@
 //! The questions, which change nothing and are answered also while a passage is open.
-ghost use Rattle.std.specs.Prelude.{◌≡◌, ◌*◌, ◌^◌, ◌≤◌, length, Some};
+ghost use Rattle.std.specs.Prelude.{◌≡◌, ◌*◌, ◌^◌, ◌≤◌, length, is_some, Some};
 ghost use Rattle.rules.specs.Refusals.{Replies};
-ghost use Rattle.laws.specs.ByNumber.{total, by_number};
+ghost use Rattle.laws.specs.ByNumber.{total, Numbered, by_number};
 ghost use Rattle.laws.specs.Division.{minimum_of};
 ghost use Rattle.laws.specs.Broker.{holding as held, present, all_shares, share_of};
 ghost use Rattle.laws.specs.Questions.{client_entries};
@@ -20,6 +20,14 @@ impl Pool {
             return Err(Refusal::ClientOutOfRange);
         }
         self.members[client as usize - 1].ok_or(Refusal::NotAdmitted)
+    }
+
+    // Whether a client with this number is admitted.
+    pub(crate) fn is_admitted(&self, client: u32) -> bool
+        requires { Numbered client }
+        ensures { result ≡ is_some (by_number self.now.members client) }
+    {
+        self.members[client as usize - 1].is_some()
     }
 
     /// How many frames lie in a client's stack, and for 0 in the free stack.
@@ -45,11 +53,9 @@ impl Pool {
     {
         let mut shares: u64 = 0;
         let mut minimums: u64 = 0;
-        for place in self.members.iter() {
-            if let Some(member) = place {
-                shares += member.shares as u64;
-                minimums += member.minimum as u64;
-            }
+        for member in self.members.iter().flatten() {
+            shares += member.shares as u64;
+            minimums += member.minimum as u64;
         }
         Totals { shares, minimums }
     }
@@ -76,7 +82,7 @@ impl Pool {
         ensures { NextClient (view self.now) after result }
     {
         (after..256)
-            .find(|&place| self.members[place as usize].is_some())
+            .find(|&place| self.is_admitted(place + 1))
             .map(|place| place + 1)
     }
 }

@@ -1,8 +1,7 @@
 use Rattle.std.proofs.Common.{◌≡◌, ap, inl, inr, arith, rules}
-use Rattle.std.proofs.lemmas.Result.{err_from_is_err_and}
 use Rattle.rules.specs.declared.refusal.Refusal.TheVariants.{AlreadyStarted}
 use Rattle.laws.specs.Calls.{refused}
-use Rattle.pool.proofs.Views.{seen, refused_step}
+use Rattle.pool.proofs.Views.{seen, refused_exit}
 use Rattle.pool.proofs.Starts.{start_step, at_ok, at_err}
 use Rattle.pool.proofs.pool.Pool.start.Goals as goal
 
@@ -13,10 +12,9 @@ pub returns-in_err-map_err : goal.returns-in_err-map_err
 returns-in_err-map_err c =
     let b = c.args.self.now in
     let e = at_err _ _ _ c.in_err-map_err.ensures.variant c.start.ensures in
-    let p = err_from_is_err_and c.from_residual.result c.from_residual.ensures.1 in
     let told : c.in_err-map_err.field-0.0 ≡ AlreadyStarted = search rules in
     let has = e.1.1 (omega arith) in
-    rw (p.1, p.2, told) (λ m. (refused_step _ (ap (seen b.unit b.tick b.asks b.passage b.members) e.1.0) (search (inl, inr, rules, arith))))
+    λ m. (refused_exit _ _ c.from_residual.result c.from_residual.ensures.1 (ap (seen b.unit b.tick b.asks b.passage b.members) e.1.0) (rw told (search (inl, inr, rules, arith))))
 
 pub returns : goal.returns
 returns c =
