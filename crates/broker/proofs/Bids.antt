@@ -12,7 +12,7 @@ use Rattle.laws.proofs.One.{one_payer}
 use Rattle.heap.specs.Heaps.{Least}
 use Rattle.price.specs.declared.key.Ranked.{Ranked}
 use Rattle.price.specs.Keys.{KeyOf, outranks, leads}
-use Rattle.price.specs.Lines.{ranks_bids}
+use Rattle.price.proofs.Ranks.{ranks_bids}
 use Rattle.broker.specs.Bids.{Lists, Listed}
 
 module _ (m : Meaning) (v : Broker) where

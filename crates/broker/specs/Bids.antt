@@ -1,6 +1,5 @@
 -- The bids of those who hold more than their minimums.
 --
--- offer_at   the offer of a client at a count, of what is noted of it
 -- listed     the bid of a client, if it is in
 -- Lists      what is listed of a client: its bid at its holding where it holds more than its minimum, and nothing else
 -- Listed     so it is for every number
@@ -8,19 +7,14 @@
 use Rattle.std.specs.Prelude.{◌≡◌, ℕ, ◌≢◌, Some, None, Option}
 use Rattle.std.specs.Coded.{Π_prop}
 use Rattle.std.proofs.Props.{props}
-use Rattle.rules.specs.declared.offer.Offer.{Offer}
 use Rattle.rules.specs.Offers.{Meaning}
 use Rattle.laws.specs.Division.{bid_of}
 use Rattle.laws.specs.Broker as rules
-use Rattle.laws.specs.Broker.{active_of, present, holding, Beyond}
+use Rattle.laws.specs.Broker.{present, holding, Beyond}
 use Rattle.heap.specs.Indexed.{keys_in}
-use Rattle.pool.specs.declared.member.Member.{Member}
 use Rattle.price.specs.declared.key.Ranked.{Ranked}
 use Rattle.price.specs.Keys.{KeyOf}
 use Rattle.broker.specs.declared.payers.Payers.{Payers}
-
-abbrev pub offer_at : Member → ℕ → Offer
-offer_at x k = record { shares = x.shares; class = x.class; active = active_of x.estimate; count = k }
 
 abbrev pub listed : Payers → ℕ → Option Ranked
 listed p = keys_in p.bids

@@ -1,16 +1,15 @@
 //! Those who hold more than their minimums, with their bids, the lowest first.
-ghost use Rattle.std.specs.Prelude.{◌≡◌, ℕ, ◌≤◌, true, Some, None, MatchOption};
-ghost use Rattle.rules.specs.Offers.{Valid};
+ghost use Rattle.std.specs.Prelude.{◌≡◌, ℕ, ◌≤◌, None, MatchOption};
 ghost use Rattle.heap.specs.Heaps.{Least};
 ghost use Rattle.price.specs.Keys.{Keyed, leads};
-ghost use Rattle.pool.specs.Members.{in_ranges};
+ghost use Rattle.pool.specs.Members.{offer_at};
 ghost use Rattle.pool.specs.View.{view};
-ghost use Rattle.broker.specs.Bids.{offer_at, listed, Relisted};
+ghost use Rattle.broker.specs.Bids.{listed, Relisted};
 
 use heap::IndexedHeap;
 use pool::{Member, Pool};
 use price::{Price, Ranked, ValidOffer};
-use rules::{Offer, Quote};
+use rules::Quote;
 
 /// A list of bids by client number, in fixed memory.
 #[derive(Drop)]
@@ -27,17 +26,11 @@ pub(crate) struct Payer {
 
 // The bid of a client at a count of frames.
 pub(crate) fn bid<P: Price>(price: &P, client: u32, member: Member, count: u32) -> Ranked
-    requires { (in_ranges (Some member) ≡ true) × (1 ≤ count) × (count ≤ 4_096) }
-    ensures keyed { Keyed (P.Price.meaning price.now) client member.minimum (offer_at member count) result }
-    ensures valid { Valid (offer_at member count) }
+    requires { (1 ≤ count) × (count ≤ 4_096) }
+    ensures { Keyed (P.Price.meaning price.now) client member.minimum (offer_at member count) result }
 {
-    let offer = Offer {
-        shares: member.shares,
-        class: member.class,
-        active: member.active(),
-        count,
-    };
-    Ranked::new(price, client, member.minimum, ValidOffer::known(offer))
+    let offer = ValidOffer::known(member.offer(count));
+    Ranked::new(price, client, member.minimum, offer)
 }
 
 impl Payers {
@@ -66,12 +59,13 @@ impl Payers {
         ensures { Relisted (P.Price.meaning price.now) (view pool.now) client self.old self.new }
     {
         let holding = pool.height(client);
-        match pool.member(client) {
-            Ok(member) if member.is_beyond(holding) => {
-                let bid = bid(price, client, member, holding);
-                self.bids.put(client as usize, bid);
-            }
-            _ => self.bids.take(client as usize),
+        if let Ok(member) = pool.member(client)
+            && member.is_beyond(holding)
+        {
+            let bid = bid(price, client, member, holding);
+            self.bids.put(client as usize, bid);
+        } else {
+            self.bids.take(client as usize);
         }
     }
 

@@ -1,31 +1,15 @@
 //! Asks.
-ghost use Rattle.std.specs.Prelude.{◌≡◌, ◌+◌, ◌<◌, true, false, Some, IfOk};
-ghost use Rattle.rules.specs.Offers.{Valid};
+ghost use Rattle.std.specs.Prelude.{◌≡◌, false, IfOk};
 ghost use Rattle.laws.specs.Calls.{Ask, Granted, answered};
-ghost use Rattle.pool.specs.Members.{in_ranges};
-ghost use Rattle.pool.specs.View.{height};
-ghost use Rattle.price.specs.Keys.{Keyed};
-ghost use Rattle.broker.specs.Bids.{offer_at};
-ghost use Rattle.broker.specs.View.{meaning, Opens, Sourced, Stepped};
+ghost use Rattle.broker.specs.View.{Opens, Sourced, Stepped};
 
 use super::Broker;
 use crate::payers;
 use crate::slip::Slip;
-use pool::Member;
-use price::{Price, Ranked};
+use price::Price;
 use rules::{Refusal, SlipNumbers};
 
 impl<P: Price> Broker<P> {
-    // The bid of a client for one frame more than it holds.
-    fn next_bid(&self, client: u32, member: Member) -> Ranked
-        requires { (in_ranges (Some member) ≡ true) × (height self.now.pool client < 4_096) }
-        ensures keyed { Keyed (meaning self.now) client member.minimum (offer_at member (height self.now.pool client + 1)) result }
-        ensures valid { Valid (offer_at member (height self.now.pool client + 1)) }
-    {
-        let holding = self.pool.height(client);
-        payers::bid(&self.price, client, member, holding + 1)
-    }
-
     // Where the frame of a client's ask comes from: 0 where a frame is free, and else the lowest payer, if the client may
     // take a frame from it.
     fn source(&self, client: u32) -> Result<u32, Refusal>
@@ -36,8 +20,9 @@ impl<P: Price> Broker<P> {
             return Ok(0);
         }
         let lowest = self.payers.lowest().ok_or(Refusal::Outbid)?;
-        if !member.is_below(self.pool.height(client)) {
-            let bid = self.next_bid(client, member);
+        let holding = self.pool.height(client);
+        if !member.is_below(holding) {
+            let bid = payers::bid(&self.price, client, member, holding + 1);
             if !bid.ranks_above(&lowest.bid) {
                 return Err(Refusal::Outbid);
             }

@@ -8,7 +8,7 @@ ghost use Rattle.broker.specs.View.{meaning, view};
 
 use super::Broker;
 use price::{Price, ValidOffer};
-use rules::{Offer, Quote, Refusal};
+use rules::{Quote, Refusal};
 
 impl<P: Price> Broker<P> {
     /// How many frames a client holds. A client number outside 1 to 256 is refused, and then a client that is not admitted.
@@ -52,13 +52,8 @@ impl<P: Price> Broker<P> {
             return Err(Refusal::CountOutOfRange);
         }
         let member = self.pool.member(client)?;
-        let offer = Offer {
-            shares: member.shares,
-            class: member.class,
-            active: member.active(),
-            count,
-        };
-        Ok(self.price.quote(ValidOffer::known(offer)))
+        let offer = ValidOffer::known(member.offer(count));
+        Ok(self.price.quote(offer))
     }
 
     /// The lowest payer: the client whose bid at its holding ranks lowest among all that hold more than their minimums.

@@ -24,8 +24,8 @@ returns-then-not-ranks_above g c =
     let free : (view b).free ≡ [] = nil_from_length (stack_of b.pool.ledger 0) (omega (arith, c.free_frames.ensures, c.if-free_frames-gt0.false)) in
     let k = c.in_ok-lowest.lowest in
     let least = MatchOption-at_some _ _ k c.in_ok-lowest.ensures.ok_part c.lowest.ensures in
-    outbid_by_lowest b c.args.client clear free k.client k.bid least c.in_ok-member.member e c.next_bid-bid.result c.next_bid-bid.ensures.keyed
-    (omega (arith, ltb-false c.height.result _ (sym c.if-not-is_below.ensures), c.height.ensures)) (sym c.if-not-ranks_above.ensures.keys)
+    outbid_by_lowest b c.args.client clear free k.client k.bid least c.in_ok-member.member e c.height-holding.result c.height-holding.ensures c.bid-bid.result c.bid-bid.ensures
+    (ltb-false c.height-holding.result _ (sym c.if-not-is_below.ensures)) (sym c.if-not-ranks_above.ensures.keys)
 
 pub returns-else-not-ranks_above : goal.returns-else-not-ranks_above
 returns-else-not-ranks_above g c =
@@ -34,7 +34,7 @@ returns-else-not-ranks_above g c =
     let free : (view b).free ≡ [] = nil_from_length (stack_of b.pool.ledger 0) (omega (arith, c.free_frames.ensures, c.if-free_frames-gt0.false)) in
     let k = c.in_ok-lowest.lowest in
     let least = MatchOption-at_some _ _ k c.in_ok-lowest.ensures.ok_part c.lowest.ensures in
-    taken_above b c.args.client clear free k.client k.bid least c.in_ok-member.member e c.next_bid-bid.result c.next_bid-bid.ensures.keyed c.next_bid-bid.ensures.valid
+    taken_above b c.args.client clear free k.client k.bid least c.in_ok-member.member e c.height-holding.result c.height-holding.ensures c.bid-bid.result c.bid-bid.ensures
     (sym c.ranks_above.ensures.keys ∙ c.if-not-ranks_above.false)
 
 pub returns-else-not-is_below : goal.returns-else-not-is_below
@@ -44,4 +44,5 @@ returns-else-not-is_below g c =
     let free : (view b).free ≡ [] = nil_from_length (stack_of b.pool.ledger 0) (omega (arith, c.free_frames.ensures, c.if-free_frames-gt0.false)) in
     let k = c.in_ok-lowest.lowest in
     let least = MatchOption-at_some _ _ k c.in_ok-lowest.ensures.ok_part c.lowest.ensures in
-    taken_below b c.args.client clear free k.client k.bid least c.in_ok-member.member e (omega (arith, ltb-true c.height.result _ (sym c.is_below.ensures ∙ c.if-not-is_below.false), c.height.ensures))
+    taken_below b c.args.client clear free k.client k.bid least c.in_ok-member.member e c.height-holding.result c.height-holding.ensures
+    (ltb-true c.height-holding.result _ (sym c.is_below.ensures ∙ c.if-not-is_below.false))
