@@ -20,10 +20,6 @@ module _ {K : Type 0} where
   pub change_over : (f g h : ℕ → Option K) (o : ℕ) (w : Option K) → ((q : ℕ) → h q ≡ update eqb g o w q) → ((q : ℕ) → g q ≡ f q) → (q : ℕ) → h q ≡ update eqb f o w q
   change_over f g h o w p e = by_owner f h o w (p o ∙ update_here g o w) (λ q d. p q ∙ (update_apart g o w q d ∙ e q))
 
-  -- a map without o loses nothing with o
-  pub out_already : (f : ℕ → Option K) (o : ℕ) → f o ≡ None → (q : ℕ) → f q ≡ update eqb f o None q
-  out_already f o e = by_owner f f o None e (λ q d. refl)
-
   -- another key
   module _ (xs ys : List (Record K)) (n o : ℕ) (k : K) (r : Rekeyed xs ys o k) where
     pub rekeyed_placed : Placed xs n → Placed ys n

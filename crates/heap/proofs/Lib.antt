@@ -6,4 +6,3 @@ mod Room
 mod Exchanges
 mod Changes
 mod Parts
-pub mod Heaps

@@ -1,11 +1,11 @@
 -- Who is in the heap, and with which key.
-use Rattle.std.proofs.Common.{◌≡◌, ℕ, ◌<◌, ◌≤◌, Bool, true, false, eqb, ltb, ◌⊎◌, List, map, length, is_some as option_is_some, Some, None, MatchBool, Option, sym, refl, ap, ◌∙◌, subst, inl, inr, arith}
-use Rattle.std.proofs.lemmas.Bool.{cases_Bool, cases_eq, cases_lt, ne_eqb, and_from, and_parts, ltb-true, eqb-true, lt-ltb, eq-eqb, both_ways, cond-true, cond-false}
+use Rattle.std.proofs.Common.{◌≡◌, ℕ, ◌<◌, ◌≤◌, true, false, cond, eqb, ltb, ◌⊎◌, List, map, length, get_or, is_some as option_is_some, Some, None, Option, sym, refl, ap, ◌∙◌, inl, inr, arith}
+use Rattle.std.proofs.lemmas.Bool.{cases_Bool, cases_lt, and_from, and_parts, ltb-true, eqb-true, lt-ltb, eq-eqb, both_ways, cond-true, cond-false}
 use Rattle.std.proofs.lemmas.List.{length-map}
-use Rattle.std.proofs.lemmas.Option.{slice_get_past}
+use Rattle.std.proofs.lemmas.Option.{slice_get_past, slice_get_cases}
 use Rattle.heap.specs.declared.records.Record.{Record}
 use Rattle.heap.specs.Heaps.{owner_at, place_of, key_of, Placed, is_in, keys, present}
-use Rattle.heap.proofs.Writes.{key_some}
+use Rattle.heap.proofs.Writes.{owner_read, place_read, key_read}
 
 pub present_some : {K : Type 0} (m : Option K) → option_is_some m ≡ true → present m ≡ 1
 present_some None h = absurd (both_ways false refl h)
@@ -51,20 +51,17 @@ module _ {K : Type 0} where
         | inr f ↦ cond-false (is_in xs n o) (key_of xs o) None f
       ]
 
-  pub nobody_or_some : (xs : List (Record K)) (n : ℕ) → MatchBool (eqb n 0) ((o : ℕ) → keys xs n o ≡ None) (0 < n)
-  nobody_or_some xs n =
-      let P : Bool → Type 0 = λ b. MatchBool b ((o : ℕ) → keys xs n o ≡ None) (0 < n) in
-      elim (cases_eq n 0) [
-        | inl e ↦ subst P (sym (eq-eqb n 0 e)) (λ o. keys_out xs n o (λ s. (let l = s.low in omega arith)))
-        | inr d ↦ subst P (sym (ne_eqb n 0 d)) (let l : 0 < n = omega arith in l)
-      ]
-
   -- an owner that is in has a record
   pub in_within : (xs : List (Record K)) (n o : ℕ) → Placed xs n → In xs n o → o < length xs
   in_within xs n o x s = let e = s.back in omega (arith, x.1 (place_of xs o) s.low)
 
   pub is_some : (xs : List (Record K)) (n o : ℕ) → Placed xs n → In xs n o → option_is_some (keys xs n o) ≡ true
-  is_some xs n o x s = ap option_is_some (keys_in xs n o s ∙ (key_some xs o (in_within xs n o x s)).1)
+  unfolding key_of
+  is_some xs n o x s =
+      elim (slice_get_cases (map (λ x. x.key) xs) o).1 [
+        | inl f ↦ ap option_is_some (keys_in xs n o s ∙ f.2)
+        | inr p ↦ absurd (let l = in_within xs n o x s in let e = length-map xs (λ x. x.key) in let q = p.0 in omega arith)
+      ]
 
   pub some_in : (xs : List (Record K)) (n o : ℕ) → option_is_some (keys xs n o) ≡ true → In xs n o
   some_in xs n o h =
@@ -73,13 +70,21 @@ module _ {K : Type 0} where
         | inr d ↦ absurd (both_ways true (sym h ∙ ap option_is_some (keys_out xs n o d)) refl)
       ]
 
-  -- a key that the map has is one of the slice's
-  pub some_within : (xs : List (Record K)) (n o : ℕ) → option_is_some (keys xs n o) ≡ true → o < length xs
+  -- who has no record is out
+  pub none_past : (xs : List (Record K)) (n o : ℕ) → length xs ≤ o → keys xs n o ≡ None
   unfolding key_of
+  none_past xs n o past =
+      elim (cases_in xs n o) [
+        | inl s ↦ keys_in xs n o s ∙ slice_get_past (map (λ x. x.key) xs) o (let e = length-map xs (λ x. x.key) in omega arith)
+        | inr d ↦ keys_out xs n o d
+      ]
+
+  -- who is in has a record
+  pub some_within : (xs : List (Record K)) (n o : ℕ) → option_is_some (keys xs n o) ≡ true → o < length xs
   some_within xs n o h =
       elim (cases_lt o (length xs)) [
         | inl l ↦ l
-        | inr g ↦ absurd (both_ways true (sym h ∙ ap option_is_some (keys_in xs n o (some_in xs n o h) ∙ slice_get_past (map (λ x. x.key) xs) o (let e = length-map xs (λ x. x.key) in omega arith))) refl)
+        | inr g ↦ absurd (both_ways true (sym h ∙ ap option_is_some (none_past xs n o g)) refl)
       ]
 
   pub none_out : (xs : List (Record K)) (n o : ℕ) → Placed xs n → option_is_some (keys xs n o) ≡ false → In xs n o → ⊥
@@ -96,6 +101,22 @@ module _ {K : Type 0} where
   pub owners_differ : (xs : List (Record K)) (n i j : ℕ) → Placed xs n → i < n → j < n → (i ≡ j → ⊥) → owner_at xs i ≡ owner_at xs j → ⊥
   owners_differ xs n i j x hi hj d e = d (sym (x.2 i hi) ∙ (ap (place_of xs) e ∙ x.2 j hj))
 
-  pub placed_less : (xs : List (Record K)) (m n : ℕ) → m ≤ n → Placed xs n → Placed xs m
-  placed_less xs m n h x =
-      ((let f = x.0 in omega arith), λ i im. x.1 i (omega arith), λ i im. x.2 i (omega arith))
+  -- what is read of the record of an owner: the place that it notes is one of the first n, and names it
+  pub key_where_named : (xs : List (Record K)) (n o : ℕ) (r d : Record K) → n ≤ length xs → o < length xs → r ≡ get_or xs o r → r.place < n → keys xs n o ≡ cond (eqb (get_or xs r.place d).owner o) (Some r.key) None
+  unfolding keys is_in
+  key_where_named xs n o r d fits ho e low =
+      let p : place_of xs o ≡ r.place = sym (place_read xs o r ho) ∙ ap (λ z. z.place) (sym e) in
+      let w : owner_at xs (place_of xs o) ≡ (get_or xs r.place d).owner = ap (owner_at xs) p ∙ sym (owner_read xs r.place d (omega arith)) in
+      let k : key_of xs o ≡ Some r.key = key_read xs o r ho ∙ ap (λ z. Some z.key) (sym e) in
+      let l : ltb (place_of xs o) n ≡ true = lt-ltb _ _ (omega arith) in
+      rw (l, w, k)
+
+  -- or it is none of them
+  pub none_above : (xs : List (Record K)) (n o : ℕ) (r : Record K) → o < length xs → r ≡ get_or xs o r → n ≤ r.place → keys xs n o ≡ None
+  none_above xs n o r ho e high =
+      let p : place_of xs o ≡ r.place = sym (place_read xs o r ho) ∙ ap (λ z. z.place) (sym e) in
+      keys_out xs n o (λ s. (let l = s.low in omega arith))
+
+  -- nobody is in a heap of no places
+  pub empty_keys : (xs : List (Record K)) (o : ℕ) → keys xs 0 o ≡ None
+  empty_keys xs o = keys_out xs 0 o (λ s. (let l = s.low in omega arith))

@@ -26,3 +26,7 @@ none_first_lawful {K} {le} law = record { total = total; chain = chain }
     chain (Some a) None z h k = absurd (both_ways false refl h)
     chain (Some a) (Some b) None h k = k
     chain (Some a) (Some b) (Some d) h k = law.chain a b d h k
+
+-- the laws of a bound, for keys that may be absent
+pub key_laws : {K : Type 0} {le : K → K → Bool} → ((x y : K) → le x y ≡ false → le y x ≡ true) → ((x y z : K) → le x y ≡ true → le y z ≡ true → le x z ≡ true) → Lawful (none_first le)
+key_laws t c = none_first_lawful (lawful t c)

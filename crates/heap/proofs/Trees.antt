@@ -1,5 +1,5 @@
 -- Places in order, one of which may be out of it: the steps of a sift, and that the root leads all.
-use Rattle.std.proofs.Common.{◌≡◌, ℕ, zero, suc, ◌+◌, ◌*◌, ◌<◌, ◌≤◌, Bool, true, false, sym, refl, ap, ◌∙◌, inl, inr, arith}
+use Rattle.std.proofs.Common.{◌≡◌, ℕ, zero, suc, ◌+◌, ◌<◌, ◌≤◌, Bool, true, false, sym, refl, ap, ◌∙◌, inl, inr, arith}
 use Rattle.std.proofs.lemmas.Bool.{cases_eq}
 use Rattle.std.proofs.lemmas.List.Edits.{Swapped}
 use Rattle.heap.specs.Heaps.{above, Ordered}
@@ -71,35 +71,6 @@ module _ {X : Type 0} {le : X → X → Bool} (law : Lawful le) where
       up : 0 < c → le (g (above c)) (g c) ≡ true
       up c0 = at (ap g first.below.under ∙ s.0) s.1 (law.total (f j) (f c) (sym late))
 
-  -- the one at j is where it belongs
-  ordered : (f : ℕ → X) (j n : ℕ) → Gap le f j n → (0 < j → le (f (above j)) (f j) ≡ true) → ((k : ℕ) → Below n j k → le (f j) (f k) ≡ true) → Ordered le f n
-  ordered f j n r up down k (k0, kn) =
-      elim (cases_eq (above k) j) [
-        | inl e ↦ at (ap f e) refl (down k (record { deep = k0; within = kn; under = e }))
-        | inr m ↦ elim (cases_eq k j) [
-          | inl e ↦ at (ap (λ z. f (above z)) e) (ap f e) (up (omega arith))
-          | inr d ↦ r.apart k k0 kn m d
-        ]
-      ]
-
-  -- one that leads what lies below belongs where the one above leads it, or where there is none above
-  pub risen : (f : ℕ → X) (j n : ℕ) → Rises le f j n → true ≡ le (f (above j)) (f j) → Ordered le f n
-  risen f j n r e = ordered f j n r.gap (λ h. sym e) r.down
-
-  pub at_top : (f : ℕ → X) (j n : ℕ) → Rises le f j n → j ≡ 0 → Ordered le f n
-  at_top f j n r e = ordered f j n r.gap (λ h. absurd (omega arith)) r.down
-
-  -- one that the one above leads belongs where it leads the first below it, or where there is none below
-  pub sunk : (f : ℕ → X) (j c n : ℕ) → Sinks le f j n → FirstBelow le f j c n → true ≡ le (f j) (f c) → Ordered le f n
-  sunk f j c n r first e = ordered f j n r.gap r.up (λ k b. law.chain (f j) (f c) (f k) (sym e) (first.leads k b))
-
-  pub at_bottom : (f : ℕ → X) (j n : ℕ) → Sinks le f j n → n ≤ j * 2 + 1 → Ordered le f n
-  at_bottom f j n r h = ordered f j n r.gap r.up (λ k b. absurd (let u = b.under in let z = b.deep in let l = b.within in omega arith))
-
-  -- one that comes before the one above it leads what lies below
-  pub gap_rises : (f : ℕ → X) (j n : ℕ) → 0 < j → false ≡ le (f (above j)) (f j) → Gap le f j n → Rises le f j n
-  gap_rises f j n h late r = record { gap = r; down = λ k b. law.chain (f j) (f (above j)) (f k) (law.total (f (above j)) (f j) (sym late)) (r.across k h b) }
-
   -- one place of an order changes
   pub gap : (f g : ℕ → X) (j m n : ℕ) → n ≤ m → j < m → Ordered le f m → ((k : ℕ) → k < n → (k ≡ j → ⊥) → g k ≡ f k) → Gap le g j n
   gap f g j m n nm jm o same =
@@ -125,26 +96,6 @@ module _ {X : Type 0} {le : X → X → Bool} (law : Lawful le) where
     where
       none : (k : ℕ) → Below (n + 1) n k → ⊥
       none k b = let u = b.under in let z = b.deep in let l = b.within in omega arith
-
-  -- one below j that leads the other, where there is another, is a first
-  first_of_two : (f : ℕ → X) (j c d n : ℕ) → Below n j c → above d ≡ j → 0 < d → (c ≡ d → ⊥) → (d < n → le (f c) (f d) ≡ true) → FirstBelow le f j c n
-  first_of_two f j c d n b u d0 apart leads =
-      record {
-        below = b;
-        leads = λ k w.
-            elim (cases_eq k c) [
-              | inl e ↦ at refl (ap f e) (leads_itself law (f c))
-              | inr m ↦
-                  let e : k ≡ d = let bu = b.under in let b0 = b.deep in let wu = w.under in let w0 = w.deep in omega arith in
-                  at refl (ap f e) (leads (let l = w.within in omega arith))
-            ];
-      }
-
-  pub left_first : (f : ℕ → X) (j n : ℕ) → j * 2 + 1 < n → (j * 2 + 1 + 1 < n → true ≡ le (f (j * 2 + 1)) (f (j * 2 + 1 + 1))) → FirstBelow le f j (j * 2 + 1) n
-  left_first f j n h leads = first_of_two f j (j * 2 + 1) (j * 2 + 1 + 1) n (record { deep = omega arith; within = h; under = omega arith }) (omega arith) (omega arith) (λ e. omega arith) (λ l. sym (leads l))
-
-  pub right_first : (f : ℕ → X) (j n : ℕ) → j * 2 + 1 + 1 < n → false ≡ le (f (j * 2 + 1)) (f (j * 2 + 1 + 1)) → FirstBelow le f j (j * 2 + 1 + 1) n
-  right_first f j n h late = first_of_two f j (j * 2 + 1 + 1) (j * 2 + 1) n (record { deep = omega arith; within = h; under = omega arith }) (omega arith) (omega arith) (λ e. omega arith) (λ l. law.total (f (j * 2 + 1)) (f (j * 2 + 1 + 1)) (sym late))
 
   -- the root leads all
   pub root_leads : (f : ℕ → X) (n : ℕ) → Ordered le f n → (k : ℕ) → k < n → le (f 0) (f k) ≡ true

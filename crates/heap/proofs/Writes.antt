@@ -1,16 +1,12 @@
 -- What a read of one record says, and what a write to one leaves of all of them.
 use Rattle.std.proofs.Common.{◌≡◌, ℕ, zero, suc, ◌<◌, List, [], ◌∷◌, map, length, get_or, set, Some, sym, refl, ap, ◌∙◌, arith}
 use Rattle.std.specs.List.{slice_get}
+use Rattle.std.proofs.Math.Seq.{map-set_same}
 use Rattle.std.proofs.lemmas.Option.{slice_get-get_or}
-use Rattle.std.proofs.lemmas.List.{length-set, length-map, map-set, get_or-map, set-get_or, get_or-set_same, get_or-set_other}
+use Rattle.std.proofs.lemmas.List.{length-set, length-map, map-set, get_or-map, get_or-set_same, get_or-set_other}
 use Rattle.heap.specs.declared.records.Record.{Record}
 use Rattle.heap.specs.Heaps.{owner_at, place_of, key_of}
-use Rattle.heap.specs.Steps.{Seated, Rekeyed, Exchanged}
-
--- the column of a field, after a write that keeps the field
-kept : {X Y : Type 0} (f : X → Y) (xs : List X) (i : ℕ) (d a : X) → i < length xs → f a ≡ f (get_or xs i d) → map f (set xs i a) ≡ map f xs
-kept f xs i d a h p =
-    map-set f xs i a ∙ (ap (set (map f xs) i) (p ∙ sym (get_or-map f xs i d (f d) h)) ∙ set-get_or (map f xs) i (f d))
+use Rattle.heap.specs.Steps.{Seated, Rekeyed}
 
 written : {X : Type 0} (f : X → ℕ) (xs : List X) (i : ℕ) (a : X) → i < length xs → get_or (map f (set xs i a)) i 0 ≡ f a
 written f xs i a h =
@@ -18,11 +14,6 @@ written f xs i a h =
 
 unwritten : {X : Type 0} (f : X → ℕ) (xs : List X) (i k : ℕ) (a : X) → (k ≡ i → ⊥) → get_or (map f (set xs i a)) k 0 ≡ get_or (map f xs) k 0
 unwritten f xs i k a h = ap (λ l. get_or l k 0) (map-set f xs i a) ∙ get_or-set_other (map f xs) i k (f a) 0 h
-
-nth_some : {X : Type 0} (l : List X) (i : ℕ) → i < length l → (x : X) × (slice_get l i ≡ Some x)
-nth_some [] i h = absurd (omega arith)
-nth_some (x ∷ l) zero h = (x, refl)
-nth_some (x ∷ l) (suc i) h = nth_some l i (omega arith)
 
 nth_unwritten : {X : Type 0} (l : List X) (i j : ℕ) (v : X) → (j ≡ i → ⊥) → slice_get (set l i v) j ≡ slice_get l j
 nth_unwritten [] i j v h = refl
@@ -45,10 +36,6 @@ module _ {K : Type 0} where
   key_read xs o d h =
       slice_get-get_or (map (λ x. x.key) xs) o d.key (let e = length-map xs (λ x. x.key) in omega arith) ∙ ap Some (get_or-map (λ x. x.key) xs o d d.key h)
 
-  pub key_some : (xs : List (Record K)) (o : ℕ) → o < length xs → (k : K) × (key_of xs o ≡ Some k)
-  unfolding key_of
-  key_some xs o h = nth_some (map (λ x. x.key) xs) o (let e = length-map xs (λ x. x.key) in omega arith)
-
   -- an owner written at its place, and then the place at the owner
   module _ (xs : List (Record K)) (i o : ℕ) (d e : Record K) (hi : i < length xs) (ho : o < length xs) where
     abbrev pub named : Record K
@@ -67,11 +54,11 @@ module _ {K : Type 0} where
     unfolding owner_at place_of key_of
     seated = record {
       long = length-set between o noted ∙ length-set xs i named;
-      keys = λ q. ap (λ l. slice_get l q) (kept (λ x. x.key) between o e noted inside refl ∙ kept (λ x. x.key) xs i d named hi refl);
-      owner = ap (λ l. get_or l i 0) (kept (λ x. x.owner) between o e noted inside refl) ∙ written (λ x. x.owner) xs i named hi;
+      keys = λ q. ap (λ l. slice_get l q) (map-set_same (λ x. x.key) between o noted e refl ∙ map-set_same (λ x. x.key) xs i named d refl);
+      owner = ap (λ l. get_or l i 0) (map-set_same (λ x. x.owner) between o noted e refl) ∙ written (λ x. x.owner) xs i named hi;
       place = written (λ x. x.place) between o noted inside;
-      owners = λ k n. ap (λ l. get_or l k 0) (kept (λ x. x.owner) between o e noted inside refl) ∙ unwritten (λ x. x.owner) xs i k named n;
-      places = λ q n. unwritten (λ x. x.place) between o q noted n ∙ ap (λ l. get_or l q 0) (kept (λ x. x.place) xs i d named hi refl);
+      owners = λ k n. ap (λ l. get_or l k 0) (map-set_same (λ x. x.owner) between o noted e refl) ∙ unwritten (λ x. x.owner) xs i k named n;
+      places = λ q n. unwritten (λ x. x.place) between o q noted n ∙ ap (λ l. get_or l q 0) (map-set_same (λ x. x.place) xs i named d refl);
     }
 
   pub rekeyed : (xs : List (Record K)) (o : ℕ) (d : Record K) (k : K) → o < length xs → Rekeyed xs (set xs o (record { key = k; owner = (get_or xs o d).owner; place = (get_or xs o d).place })) o k
@@ -80,21 +67,8 @@ module _ {K : Type 0} where
       let a : Record K = record { key = k; owner = (get_or xs o d).owner; place = (get_or xs o d).place } in
       record {
         long = length-set xs o a;
-        owners = λ i. ap (λ l. get_or l i 0) (kept (λ x. x.owner) xs o d a h refl);
-        places = λ q. ap (λ l. get_or l q 0) (kept (λ x. x.place) xs o d a h refl);
+        owners = λ i. ap (λ l. get_or l i 0) (map-set_same (λ x. x.owner) xs o a d refl);
+        places = λ q. ap (λ l. get_or l q 0) (map-set_same (λ x. x.place) xs o a d refl);
         key = key_read (set xs o a) o d (let l = length-set xs o a in omega arith) ∙ ap (λ z. Some z.key) (get_or-set_same xs o a d h);
         keys = λ q n. ap (λ l. slice_get l q) (map-set (λ x. x.key) xs o a) ∙ nth_unwritten (map (λ x. x.key) xs) o q k n;
       }
-
-  -- two owners, each seated where the other was
-  pub exchanged : (xs ys zs : List (Record K)) (i j a b : ℕ) → (i ≡ j → ⊥) → a ≡ owner_at xs i → b ≡ owner_at xs j → Seated xs ys i b → Seated ys zs j a → Exchanged xs zs i j
-  exchanged xs ys zs i j a b apart ea eb s t = record {
-    long = t.long ∙ s.long;
-    keys = λ q. t.keys q ∙ s.keys q;
-    left = t.owners i apart ∙ (s.owner ∙ eb);
-    right = t.owner ∙ ea;
-    owners = λ k ni nj. t.owners k nj ∙ s.owners k ni;
-    at_right = ap (place_of zs) (sym ea) ∙ t.place;
-    at_left = λ n. ap (place_of zs) (sym eb) ∙ (t.places b (λ p. n (sym ea ∙ (sym p ∙ eb))) ∙ s.place);
-    places = λ q ni nj. t.places q (λ p. ni (p ∙ ea)) ∙ s.places q (λ p. nj (p ∙ eb));
-  }

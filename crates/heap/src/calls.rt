@@ -1,10 +1,9 @@
 //! The calls: the heap as a map from owners to keys.
+// Kept: the project's form, one lent slice of records with a count. `IndexedHeap` has both in one.
 ghost use Rattle.std.specs.Prelude.{◌≡◌, ℕ, ◌<◌, length, is_some, Some, None, MatchOption};
 ghost use Rattle.std.specs.Option.{option_map};
 ghost use Rattle.heap.specs.Heaps.{Heap, Least, Changed, keys};
 
-use super::reads::{first, is_empty, key_of};
-use super::records::{owner_at, place_of};
 use super::updates::{change, insert, remove};
 use super::{Order, Record};
 
@@ -13,23 +12,8 @@ pub fn root<K: Order>(records: &[Record<K>], count: usize) -> Option<(usize, &K)
     requires { Heap K.Order.leads records.now count }
     ensures { MatchOption result ((o : ℕ) → keys records.now count o ≡ None) (λ p. (p.0 < length records.now) × Least K.Order.leads (keys records.now count) p.0 p.1.now) }
 {
-    if is_empty(records, count) {
-        None
-    } else {
-        Some(first(records, count))
-    }
-}
-
-/// Whether an owner is in.
-pub fn contains<K: Order>(records: &[Record<K>], count: usize, owner: usize) -> bool
-    requires { Heap K.Order.leads records.now count }
-    ensures { result ≡ is_some (keys records.now count owner) }
-{
-    if owner >= records.len() {
-        return false;
-    }
-    let place = place_of(records, owner);
-    place < count && owner_at(records, place) == owner
+    let owner = records[..count].first()?.owner;
+    Some((owner, &records[owner].key))
 }
 
 /// The key of an owner, if it is in.
@@ -37,11 +21,16 @@ pub fn key<K: Order>(records: &[Record<K>], count: usize, owner: usize) -> Optio
     requires { Heap K.Order.leads records.now count }
     ensures { option_map (λ x. x.now) result ≡ keys records.now count owner }
 {
-    if contains(records, count, owner) {
-        Some(key_of(records, count, owner))
-    } else {
-        None
-    }
+    let record = records.get(owner)?;
+    (record.place < count && records[record.place].owner == owner).then_some(&record.key)
+}
+
+/// Whether an owner is in.
+pub fn contains<K: Order>(records: &[Record<K>], count: usize, owner: usize) -> bool
+    requires { Heap K.Order.leads records.now count }
+    ensures { result ≡ is_some (keys records.now count owner) }
+{
+    key(records, count, owner).is_some()
 }
 
 /// Gives an owner this key, whether or not it was in, and answers how many are in then.

@@ -10,7 +10,6 @@
 mod calls;
 mod indexed;
 mod order;
-mod reads;
 mod records;
 mod sifts;
 mod updates;

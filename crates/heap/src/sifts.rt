@@ -13,6 +13,7 @@ pub(crate) fn sift_up<K: Order>(records: &mut [Record<K>], count: usize, i: usiz
     ensures map { (o : ℕ) → keys records.new count o ≡ keys records.old count o }
 {
     let mut at = i;
+    // Kept: each turn halves the place, so no range has these places.
     while at > 0 {
         let up = (at - 1) / 2;
         if leads_at(records, count, up, at) {
@@ -44,6 +45,7 @@ pub(crate) fn sift_down<K: Order>(records: &mut [Record<K>], count: usize, i: us
     ensures map { (o : ℕ) → keys records.new count o ≡ keys records.old count o }
 {
     let mut at = i;
+    // Kept: each turn doubles the place, to the left or to the right, so no range has these places.
     while at < count / 2 {
         let below = first_below(records, count, at);
         if leads_at(records, count, at, below) {

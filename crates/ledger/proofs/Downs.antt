@@ -3,23 +3,24 @@ use Rattle.std.proofs.Common.{◌≡◌, ℕ, zero, suc, ◌+◌, ◌<◌, ◌�
 use Rattle.std.proofs.lemmas.List.{get_or-set_other, get_or_past, nil_from_length}
 use Rattle.std.proofs.lemmas.Bool.{cases_eq, cases_lt, eq-eqb, ne_eqb, cond-true, cond-false}
 use Rattle.ledger.specs.Stacks.{times}
-use Rattle.ledger.specs.Linked.{down, stack}
+use Rattle.ledger.specs.Linked.{down, empty, stack}
+use Rattle.ledger.specs.declared.links.Stack.{Stack}
 
 length_down : (below : List ℕ) (f n : ℕ) → length (down below f n) ≡ n
 length_down below f zero = refl
 length_down below f (suc n) = ap suc (length_down below (get_or below f 0) n)
 
-pub length_stack : (below top height : List ℕ) (o : ℕ) → length (stack below top height o) ≡ get_or height o 0
+pub length_stack : (below : List ℕ) (begun : List Stack) (o : ℕ) → length (stack below begun o) ≡ (get_or begun o empty).height
 unfolding stack
-length_stack below top height o = length_down below (get_or top o 0) (get_or height o 0)
+length_stack below begun o = length_down below (get_or begun o empty).top (get_or begun o empty).height
 
-pub stack_none : (below top height : List ℕ) (o : ℕ) → get_or height o 0 ≡ 0 → stack below top height o ≡ []
+pub stack_none : (below : List ℕ) (begun : List Stack) (o : ℕ) → (get_or begun o empty).height ≡ 0 → stack below begun o ≡ []
 unfolding stack
-stack_none below top height o e = ap (down below (get_or top o 0)) e
+stack_none below begun o e = ap (down below (get_or begun o empty).top) e
 
 -- who has no place has no stack
-pub stack_past : (below top height : List ℕ) (o : ℕ) → length height ≤ o → stack below top height o ≡ []
-stack_past below top height o h = stack_none below top height o (get_or_past height o 0 h)
+pub stack_past : (below : List ℕ) (begun : List Stack) (o : ℕ) → length begun ≤ o → stack below begun o ≡ []
+stack_past below begun o h = stack_none below begun o (ap (λ s. s.height) (get_or_past begun o empty h))
 
 pub times_here : (f : ℕ) (xs : List ℕ) → times f (f ∷ xs) ≡ 1 + times f xs
 times_here f xs = ap (λ z. z + times f xs) (cond-true (eqb f f) 1 0 (eq-eqb f f refl))
@@ -38,17 +39,17 @@ down_apart below f v g (suc n) h =
     ]
 
 -- a stack that has a frame is an owner's
-pub high_within : (below top height : List ℕ) (n o : ℕ) → length height ≡ n → 0 < length (stack below top height o) → o < n
-high_within below top height n o e h =
+pub high_within : (below : List ℕ) (begun : List Stack) (n o : ℕ) → length begun ≡ n → 0 < length (stack below begun o) → o < n
+high_within below begun n o e h =
     elim (cases_lt o n) [
       | inl l ↦ l
-      | inr g ↦ absurd (let z = ap length (stack_past below top height o (let k : length height ≤ o = omega arith in k)) in omega arith)
+      | inr g ↦ absurd (let z = ap length (stack_past below begun o (let k : length begun ≤ o = omega arith in k)) in omega arith)
     ]
 
-pub empty_or_high : (below top height : List ℕ) (n o h : ℕ) → length height ≡ n → h ≡ length (stack below top height o) → MatchBool (eqb h 0) (stack below top height o ≡ []) ((o < n) × (0 < length (stack below top height o)))
-empty_or_high below top height n o h e k =
-    let P : Bool → Type 0 = λ b. MatchBool b (stack below top height o ≡ []) ((o < n) × (0 < length (stack below top height o))) in
+pub empty_or_high : (below : List ℕ) (begun : List Stack) (n o h : ℕ) → length begun ≡ n → h ≡ length (stack below begun o) → MatchBool (eqb h 0) (stack below begun o ≡ []) ((o < n) × (0 < length (stack below begun o)))
+empty_or_high below begun n o h e k =
+    let P : Bool → Type 0 = λ b. MatchBool b (stack below begun o ≡ []) ((o < n) × (0 < length (stack below begun o))) in
     elim (cases_eq h 0) [
-      | inl z ↦ subst P (sym (eq-eqb h 0 z)) (nil_from_length (stack below top height o) (sym k ∙ z))
-      | inr d ↦ let l : 0 < length (stack below top height o) = omega arith in subst P (sym (ne_eqb h 0 d)) (high_within below top height n o e l, l)
+      | inl z ↦ subst P (sym (eq-eqb h 0 z)) (nil_from_length (stack below begun o) (sym k ∙ z))
+      | inr d ↦ let l : 0 < length (stack below begun o) = omega arith in subst P (sym (ne_eqb h 0 d)) (high_within below begun n o e l, l)
     ]

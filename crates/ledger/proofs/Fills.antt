@@ -1,13 +1,15 @@
 -- Stacks without frames, and stacks whose frames are all free.
-use Rattle.std.proofs.Common.{◌≡◌, ℕ, zero, suc, ◌+◌, ◌<◌, ◌≤◌, cond, ltb, leb, List, [], ◌∷◌, length, get_or, set, replicate, sum, sym, refl, ap, ◌∙◌, subst, inl, inr, arith}
+use Rattle.std.proofs.Common.{◌≡◌, ℕ, zero, suc, ◌+◌, ◌<◌, ◌≤◌, cond, ltb, leb, List, [], ◌∷◌, length, get_or, set, replicate, sym, refl, ap, ◌∙◌, subst, inl, inr, arith}
 use Rattle.std.specs.List.{range_with_len}
 use Rattle.std.proofs.lemmas.List.{get_or-set_same, get_or-set_other, get_or_past}
 use Rattle.std.proofs.lemmas.List.Sums.{sum_by-set, get_or-le-sum_by}
 use Rattle.std.proofs.lemmas.Bool.{cases_lt}
 use Rattle.std.proofs.lemmas.Bool.Decides.{nat_tests}
 use Rattle.ledger.specs.Stacks.{times, pooled, Once, Filled}
-use Rattle.ledger.specs.Linked.{down, stack, many}
+use Rattle.ledger.specs.Linked.{down, empty, stack, together, Sound}
+use Rattle.ledger.specs.Links.{many}
 use Rattle.ledger.specs.declared.links.Links.{Links}
+use Rattle.ledger.specs.declared.links.Stack.{Stack}
 use Rattle.ledger.proofs.Sums.{summed_same, summed_none, summed_one}
 use Rattle.ledger.proofs.Downs.{stack_none}
 
@@ -41,35 +43,41 @@ once_filled t n F pos h f =
     omega arith
 
 module _ (v : Links) (below : List ℕ) (F : ℕ) (none : many v ≡ 0) (links : (f : ℕ) → 1 ≤ f → f ≤ F → get_or below f 0 ≡ f + 1) where
-  low : (o : ℕ) → get_or v.height o 0 ≡ 0
+  low : (o : ℕ) → (get_or v.stacks o empty).height ≡ 0
   low o =
-      elim (cases_lt o (length v.height)) [
-        | inl l ↦ omega (arith, get_or-le-sum_by (λ x. x) v.height o 0 l)
-        | inr g ↦ get_or_past v.height o 0 g
+      elim (cases_lt o (length v.stacks)) [
+        | inl l ↦ omega (arith, get_or-le-sum_by (λ s. s.height) v.stacks o empty l)
+        | inr g ↦ ap (λ s. s.height) (get_or_past v.stacks o empty g)
       ]
 
-  free : stack below (set v.top 0 1) (set v.height 0 F) 0 ≡ range_with_len 1 F
+  abbrev pub all_free : List Stack
+  all_free = set v.stacks 0 (record { top = 1; height = F })
+
+  owned : 0 < length v.stacks
+  owned = let l = v.owners in omega arith
+
+  free : stack below all_free 0 ≡ range_with_len 1 F
   unfolding stack
-  free =
-      ap (λ z. down below z (get_or (set v.height 0 F) 0 0)) (get_or-set_same v.top 0 1 0 (let l = v.tops in omega arith)) ∙ (ap (down below 1) (get_or-set_same v.height 0 F 0 (let l = v.heights in omega arith)) ∙ down_next below 1 F (λ f l u. links f l (omega arith)))
+  free = ap (λ s. down below s.top s.height) (get_or-set_same v.stacks 0 _ empty owned) ∙ down_next below 1 F (λ f l u. links f l (omega arith))
 
-  pub filled : Filled (stack below (set v.top 0 1) (set v.height 0 F)) F
-  filled = record { free = free; others = λ o d. stack_none below (set v.top 0 1) (set v.height 0 F) o (get_or-set_other v.height 0 o F 0 d ∙ low o) }
+  pub filled : Filled (stack below all_free) F
+  filled = record { free = free; others = λ o d. stack_none below all_free o (ap (λ s. s.height) (get_or-set_other v.stacks 0 o _ empty d) ∙ low o) }
 
-  pub many_filled : sum (set v.height 0 F) ≡ F
-  many_filled = let a = sum_by-set (λ x. x) v.height 0 F 0 (let l = v.heights in omega arith) in let b = low 0 in omega arith
+  pub many_filled : together all_free ≡ F
+  many_filled = let a = sum_by-set (λ s. s.height) v.stacks 0 (record { top = 1; height = F }) empty owned in let b = low 0 in omega arith
 
-  pub sound_filled : F ≤ 4096 → (sum (set v.height 0 F) ≤ 4096) × Once (stack below (set v.top 0 1) (set v.height 0 F)) 257 (sum (set v.height 0 F))
+  pub sound_filled : F ≤ 4096 → Sound below all_free
   sound_filled h =
       let e = many_filled in (
         omega arith,
-        subst (Once (stack below (set v.top 0 1) (set v.height 0 F)) 257) (sym e) (once_filled (stack below (set v.top 0 1) (set v.height 0 F)) 257 F (omega arith) filled),
+        subst (Once (stack below all_free) 257) (sym e) (once_filled (stack below all_free) 257 F (omega arith) filled),
       )
 
-zeros : (n o : ℕ) → ◌≡◌ {A = ℕ} (get_or (replicate n 0) o 0) 0
-zeros zero o = refl
-zeros (suc n) zero = refl
-zeros (suc n) (suc o) = zeros n o
+-- every place of a new table is empty
+all_empty : (n o : ℕ) → get_or (replicate n empty) o empty ≡ empty
+all_empty zero o = refl
+all_empty (suc n) zero = refl
+all_empty (suc n) (suc o) = all_empty n o
 
-pub blank_none : (below top : List ℕ) (n o : ℕ) → stack below top (replicate n 0) o ≡ []
-blank_none below top n o = stack_none below top (replicate n 0) o (zeros n o)
+pub blank_none : (below : List ℕ) (n o : ℕ) → stack below (replicate n empty) o ≡ []
+blank_none below n o = stack_none below (replicate n empty) o (ap (λ s. s.height) (all_empty n o))

@@ -1,31 +1,28 @@
 -- What a caller knows of a ledger's stacks besides what the calls say.
-use Rattle.std.proofs.Common.{◌≡◌, ℕ, ◌<◌, ◌≤◌, List, [], ◌∷◌, length, get_or, sym, ap, ◌∙◌, subst, arith}
+use Rattle.std.proofs.Common.{◌≡◌, ℕ, ◌<◌, ◌≤◌, [], length, get_or, sym, ap, ◌∙◌, subst, arith}
 use Rattle.ledger.specs.Stacks.{summed, Once}
+use Rattle.ledger.specs.Linked.{empty}
 use Rattle.ledger.specs.Ledgers.{stack_of}
 use Rattle.ledger.specs.declared.ledger.Ledger.{Ledger}
 use Rattle.ledger.proofs.Sums.{summed_same, summed_list, one_in}
 use Rattle.ledger.proofs.Downs.{length_stack, stack_past}
-use Rattle.ledger.proofs.Moves.{frame_within}
 
 module _ (l : Ledger) where
   pub few_frames : l.frames ≤ 4096
-  few_frames = let e = l.all in let s = l.sound.0 in omega arith
+  few_frames = let e = l.all in let s = l.links.sound.0 in omega arith
 
   -- each frame lies in one stack, once
   pub frames_once : Once (stack_of l) 257 l.frames
-  frames_once = subst (Once (stack_of l) 257) l.all l.sound.1
+  frames_once = subst (Once (stack_of l) 257) l.all l.links.sound.1
 
   -- the holdings are all the frames there are
   pub holdings_all : summed (λ o. length (stack_of l o)) 257 ≡ l.frames
   holdings_all =
-      summed_same (λ o. get_or l.links.height o 0) (λ o. length (stack_of l o)) 257 (λ o h. length_stack l.links.below l.links.top l.links.height o) ∙ (ap (summed (λ o. get_or l.links.height o 0)) (sym l.links.heights) ∙ (summed_list l.links.height ∙ l.all))
+      summed_same (λ o. (get_or l.links.stacks o empty).height) (λ o. length (stack_of l o)) 257 (λ o h. length_stack l.links.below l.links.stacks o) ∙ (ap (summed (λ o. (get_or l.links.stacks o empty).height)) (sym l.links.owners) ∙ (summed_list (λ s. s.height) l.links.stacks empty ∙ l.all))
 
   pub holding_few : (o : ℕ) → o < 257 → length (stack_of l o) ≤ l.frames
   holding_few o h = let a = one_in (λ o. length (stack_of l o)) 257 o h in let b = holdings_all in omega arith
 
   -- a number that is no owner's has no stack
   pub no_owner : (o : ℕ) → 257 ≤ o → stack_of l o ≡ []
-  no_owner o h = stack_past l.links.below l.links.top l.links.height o (let e = l.links.heights in omega arith)
-
-  pub top_within : (o f : ℕ) (rest : List ℕ) → o < 257 → stack_of l o ≡ f ∷ rest → (1 ≤ f) × (f ≤ l.frames)
-  top_within o f rest h e = frame_within (stack_of l) 257 l.frames o f rest h e frames_once
+  no_owner o h = stack_past l.links.below l.links.stacks o (let e = l.links.owners in omega arith)

@@ -1,11 +1,13 @@
 -- A frame goes from the top of one stack to the top of another.
-use Rattle.std.proofs.Common.{◌≡◌, ℕ, zero, suc, ◌+◌, ◌-◌, ◌<◌, ◌≤◌, cond, eqb, List, ◌∷◌, length, get_or, set, sum, sym, ap, ◌∙◌, subst, inl, inr, arith}
+use Rattle.std.proofs.Common.{◌≡◌, ℕ, zero, suc, ◌+◌, ◌-◌, ◌<◌, ◌≤◌, cond, eqb, List, ◌∷◌, length, get_or, set, ◌≢◌, sym, ap, ◌∙◌, subst, inl, inr, arith}
 use Rattle.std.proofs.lemmas.List.{get_or-set_same, get_or-set_other, get_or_past, length-set}
-use Rattle.std.proofs.lemmas.List.Sums.{sum_by-set, get_or-le-sum_by}
+use Rattle.std.proofs.lemmas.List.Sums.{sum_by-set}
 use Rattle.std.proofs.lemmas.Bool.{cases_lt}
 use Rattle.ledger.specs.Stacks.{times, pooled, Once, Moved}
-use Rattle.ledger.specs.Linked.{down, stack, stacks, many, Sound}
+use Rattle.ledger.specs.Linked.{down, empty, stack, together, Sound}
+use Rattle.ledger.specs.Links.{stacks, many}
 use Rattle.ledger.specs.declared.links.Links.{Links}
+use Rattle.ledger.specs.declared.links.Stack.{Stack}
 use Rattle.ledger.proofs.Sums.{one_in, two_in, shifted}
 use Rattle.ledger.proofs.Downs.{times_here, length_stack, down_apart}
 
@@ -42,105 +44,104 @@ module _ (s : ℕ → List ℕ) (n F from f : ℕ) (rest : List ℕ) (lf : from 
       let b = here in
       let c = once f in omega (arith, pooled_le F f)
 
-module _ (v : Links) (from to : ℕ) (sound : Sound v) (hf : from < 257) (ht : to < 257) (d : from ≡ to → ⊥) (pos : 0 < length (stacks v from)) where
+module _ (v : Links) (from to : ℕ) (can : (from < 257) × (to < 257) × (from ≢ to) × (0 < length (stacks v from))) where
+  abbrev giver : Stack
+  giver = get_or v.stacks from empty
+
+  abbrev taker : Stack
+  taker = get_or v.stacks to empty
+
   abbrev pub frame : ℕ
-  frame = get_or v.top from 0
+  frame = giver.top
 
   abbrev pub below' : List ℕ
-  below' = set v.below frame (get_or v.top to 0)
+  below' = set v.below frame taker.top
 
-  abbrev pub lifted : List ℕ
-  lifted = set v.top from (get_or v.below frame 0)
+  abbrev lighter : Stack
+  lighter = record { top = get_or v.below frame 0; height = giver.height - 1 }
 
-  abbrev pub top' : List ℕ
-  top' = set lifted to frame
+  abbrev heavier : Stack
+  heavier = record { top = frame; height = taker.height + 1 }
 
-  abbrev pub lowered : List ℕ
-  lowered = set v.height from (get_or v.height from 0 - 1)
+  abbrev given : List Stack
+  given = set v.stacks from lighter
 
-  abbrev pub height' : List ℕ
-  height' = set lowered to (get_or lowered to 0 + 1)
+  abbrev pub stacks' : List Stack
+  stacks' = set given to heavier
 
-  high : 0 < get_or v.height from 0
-  high = let e = length_stack v.below v.top v.height from in omega arith
+  high : 0 < giver.height
+  high = let e = length_stack v.below v.stacks from in let p = can.3 in omega arith
 
   rest : List ℕ
-  rest = down v.below (get_or v.below frame 0) (get_or v.height from 0 - 1)
+  rest = down v.below lighter.top lighter.height
 
   taken : stacks v from ≡ frame ∷ rest
   unfolding stack rest
-  taken = ap (down v.below frame) (let h = high in let e : get_or v.height from 0 ≡ suc (get_or v.height from 0 - 1) = omega arith in e)
+  taken = ap (down v.below frame) (let h = high in let e : giver.height ≡ suc (giver.height - 1) = omega arith in e)
 
   within : (1 ≤ frame) × (frame ≤ many v)
-  within = frame_within (stacks v) 257 (many v) from frame rest hf taken sound.1
+  within = frame_within (stacks v) 257 (many v) from frame rest can.0 taken v.sound.1
 
   pub frame_linked : frame < 4097
-  frame_linked = let w = within in let f = sound.0 in omega arith
+  frame_linked = let w = within in let f = v.sound.0 in omega arith
 
-  pub height_taken : 1 ≤ get_or v.height from 0
+  pub height_taken : 1 ≤ giver.height
   height_taken = high
 
   gone : (o : ℕ) → (o ≡ from → ⊥) → o < 257 → times frame (stacks v o) ≡ 0
-  gone o apart l = not_elsewhere (stacks v) 257 (many v) from frame rest hf taken sound.1 o l apart
+  gone o apart l = not_elsewhere (stacks v) 257 (many v) from frame rest can.0 taken v.sound.1 o l apart
 
   back : to ≡ from → ⊥
-  back e = d (sym e)
+  back e = can.2 (sym e)
 
-  top_from : get_or top' from 0 ≡ get_or v.below frame 0
-  top_from = get_or-set_other lifted to from frame 0 d ∙ get_or-set_same v.top from (get_or v.below frame 0) 0 (let l = v.tops in omega arith)
+  pub owners_kept : length stacks' ≡ 257
+  owners_kept = length-set given to heavier ∙ (length-set v.stacks from lighter ∙ v.owners)
 
-  top_to : get_or top' to 0 ≡ frame
-  top_to = get_or-set_same lifted to frame 0 (let l = length-set v.top from (get_or v.below frame 0) in let k = v.tops in omega arith)
+  from_place : from < length v.stacks
+  from_place = let l = v.owners in omega arith
 
-  height_from : get_or height' from 0 ≡ get_or v.height from 0 - 1
-  height_from = get_or-set_other lowered to from (get_or lowered to 0 + 1) 0 d ∙ get_or-set_same v.height from (get_or v.height from 0 - 1) 0 (let l = v.heights in omega arith)
+  to_place : to < length given
+  to_place = let l = length-set v.stacks from lighter in let k = v.owners in omega arith
 
-  given_place : to < length lowered
-  given_place = let l = length-set v.height from (get_or v.height from 0 - 1) in let k = v.heights in omega arith
+  at_from : get_or stacks' from empty ≡ lighter
+  at_from = get_or-set_other given to from heavier empty can.2 ∙ get_or-set_same v.stacks from lighter empty from_place
 
-  height_kept : get_or lowered to 0 ≡ get_or v.height to 0
-  height_kept = get_or-set_other v.height from to (get_or v.height from 0 - 1) 0 back
+  at_to : get_or stacks' to empty ≡ heavier
+  at_to = get_or-set_same given to heavier empty to_place
 
-  height_to : get_or height' to 0 ≡ suc (get_or v.height to 0)
-  height_to = let a = get_or-set_same lowered to (get_or lowered to 0 + 1) 0 given_place in let b = height_kept in omega arith
+  elsewhere : (o : ℕ) → (o ≡ from → ⊥) → (o ≡ to → ⊥) → get_or stacks' o empty ≡ get_or v.stacks o empty
+  elsewhere o nf nt = get_or-set_other given to o heavier empty nt ∙ get_or-set_other v.stacks from o lighter empty nf
 
   -- what passes the moved frame nowhere is as it was
   passed_by : (g n : ℕ) → times frame (down v.below g n) ≡ 0 → down below' g n ≡ down v.below g n
-  passed_by g n h = down_apart v.below frame (get_or v.top to 0) g n h
+  passed_by g n h = down_apart v.below frame taker.top g n h
 
-  others : (o : ℕ) → (o ≡ from → ⊥) → (o ≡ to → ⊥) → stack below' top' height' o ≡ stacks v o
+  others : (o : ℕ) → (o ≡ from → ⊥) → (o ≡ to → ⊥) → stack below' stacks' o ≡ stacks v o
   unfolding stack
   others o nf nt =
-      let te : get_or top' o 0 ≡ get_or v.top o 0 = get_or-set_other lifted to o frame 0 nt ∙ get_or-set_other v.top from o (get_or v.below frame 0) 0 nf in
-      let he : get_or height' o 0 ≡ get_or v.height o 0 = get_or-set_other lowered to o (get_or lowered to 0 + 1) 0 nt ∙ get_or-set_other v.height from o (get_or v.height from 0 - 1) 0 nf in
-      ap (λ z. down below' z (get_or height' o 0)) te ∙ (ap (down below' (get_or v.top o 0)) he ∙ elim (cases_lt o 257) [
-        | inl l ↦ passed_by (get_or v.top o 0) (get_or v.height o 0) (gone o nf l)
-        | inr g ↦ let z : get_or v.height o 0 ≡ 0 = get_or_past v.height o 0 (let l = v.heights in omega arith) in ap (down below' (get_or v.top o 0)) z ∙ sym (ap (down v.below (get_or v.top o 0)) z)
-      ])
+      ap (λ s. down below' s.top s.height) (elsewhere o nf nt) ∙ elim (cases_lt o 257) [
+        | inl l ↦ passed_by (get_or v.stacks o empty).top (get_or v.stacks o empty).height (gone o nf l)
+        | inr g ↦ let z : get_or v.stacks o empty ≡ empty = get_or_past v.stacks o empty (let l = v.owners in omega arith) in ap (λ s. down below' s.top s.height) z ∙ sym (ap (λ s. down v.below s.top s.height) z)
+      ]
 
-  pub moved : Moved (stacks v) (stack below' top' height') from to frame
+  pub moved : Moved (stacks v) (stack below' stacks') from to frame
   unfolding stack rest
   moved = record {
-    taken = taken ∙ ap (λ l. frame ∷ l) (sym (ap (λ z. down below' z (get_or height' from 0)) top_from ∙ (ap (down below' (get_or v.below frame 0)) height_from ∙ passed_by (get_or v.below frame 0) (get_or v.height from 0 - 1) (not_under (stacks v) 257 (many v) from frame rest hf taken sound.1))));
-    given = ap (λ z. down below' z (get_or height' to 0)) top_to ∙ (ap (down below' frame) height_to ∙ ap (λ l. frame ∷ l) (ap (λ z. down below' z (get_or v.height to 0)) (get_or-set_same v.below frame (get_or v.top to 0) 0 (let w = frame_linked in let l = v.links in omega arith)) ∙ passed_by (get_or v.top to 0) (get_or v.height to 0) (gone to back ht)));
+    taken = taken ∙ ap (λ l. frame ∷ l) (sym (ap (λ s. down below' s.top s.height) at_from ∙ passed_by lighter.top lighter.height (not_under (stacks v) 257 (many v) from frame rest can.0 taken v.sound.1)));
+    given = ap (λ s. down below' s.top s.height) at_to ∙ (ap (down below' frame) (let e : taker.height + 1 ≡ suc taker.height = omega arith in e) ∙ ap (λ l. frame ∷ l) (ap (λ z. down below' z taker.height) (get_or-set_same v.below frame taker.top 0 (let w = frame_linked in let l = v.links in omega arith)) ∙ passed_by taker.top taker.height (gone to back can.1)));
     others = others;
   }
 
-  pub many_kept : sum height' ≡ many v
+  pub many_kept : together stacks' ≡ many v
   many_kept =
-      let a = sum_by-set (λ x. x) v.height from (get_or v.height from 0 - 1) 0 (let l = v.heights in omega arith) in
-      let b = sum_by-set (λ x. x) lowered to (get_or lowered to 0 + 1) 0 given_place in
+      let a = sum_by-set (λ s. s.height) v.stacks from lighter empty from_place in
+      let b = sum_by-set (λ s. s.height) given to heavier empty to_place in
+      let k = ap (λ s. s.height) (get_or-set_other v.stacks from to lighter empty back) in
       let h = high in omega arith
 
-  pub height_given : get_or lowered to 0 + 1 ≤ 4097
-  height_given =
-      let b = height_kept in
-      let c = get_or-le-sum_by (λ x. x) v.height to 0 (let l = v.heights in omega arith) in
-      let f = sound.0 in omega arith
-
-  pub sound_kept : (sum height' ≤ 4096) × Once (stack below' top' height') 257 (sum height')
+  pub sound_kept : Sound below' stacks'
   sound_kept =
       let e = many_kept in (
-        let f = sound.0 in omega arith,
-        subst (Once (stack below' top' height') 257) (sym e) (moved_once (stacks v) (stack below' top' height') 257 (many v) from to frame hf ht d moved sound.1),
+        let f = v.sound.0 in omega arith,
+        subst (Once (stack below' stacks') 257) (sym e) (moved_once (stacks v) (stack below' stacks') 257 (many v) from to frame can.0 can.1 can.2 moved v.sound.1),
       )

@@ -1,5 +1,6 @@
 -- Sums over owners, of which one or two change.
-use Rattle.std.proofs.Common.{◌≡◌, ℕ, zero, suc, ◌+◌, ◌<◌, ◌≤◌, cond, eqb, List, length, get_or, take, sum, sym, refl, ap, ◌∙◌, inl, inr, arith}
+use Rattle.std.proofs.Common.{◌≡◌, ℕ, zero, suc, ◌+◌, ◌<◌, ◌≤◌, cond, eqb, List, length, get_or, take, sym, refl, ap, ◌∙◌, inl, inr, arith}
+use Rattle.std.specs.List.{sum_by}
 use Rattle.std.proofs.lemmas.List.{take_all}
 use Rattle.std.proofs.lemmas.List.Sums.{sum_by_more}
 use Rattle.std.proofs.lemmas.Bool.{cases_eq, eq-eqb, ne_eqb, cond-true, cond-false}
@@ -25,12 +26,6 @@ summed_one g h (suc n) a l e =
       | inl p ↦ let r = summed_same g h n (λ o k. e o (λ q. omega arith)) in let u = ap g p in let v = ap h p in omega arith
       | inr d ↦ let r = summed_one g h n a (omega arith) e in let t = e n d in omega arith
     ]
-
--- the first owner apart from the others
-pub summed_front : (g : ℕ → ℕ) (n : ℕ) → summed g (suc n) ≡ g 0 + summed (λ o. g (suc o)) n
-unfolding summed
-summed_front g zero = refl
-summed_front g (suc n) = let r = summed_front g n in omega arith
 
 -- g with another value at a
 put : (ℕ → ℕ) → ℕ → ℕ → ℕ → ℕ
@@ -66,14 +61,14 @@ shifted g h n a b v la lb d ea eb e =
     let s : summed h n + k b ≡ summed k n + h b = summed_one k h n b lb (λ o nb. elim (cases_eq o a) [ inl p ↦ ap h p ∙ (sym ka ∙ ap k (sym p)) | inr na ↦ e o na nb ∙ sym (put_other g a (h a) o na) ]) in
     omega arith
 
--- the sum of a list, place by place
-pub summed_list : (xs : List ℕ) → summed (λ o. get_or xs o 0) (length xs) ≡ sum xs
+-- the sum over a list, place by place
+pub summed_list : {X : Type 0} (f : X → ℕ) (xs : List X) (d : X) → summed (λ o. f (get_or xs o d)) (length xs) ≡ sum_by f xs
 unfolding summed
-summed_list xs = front (length xs) (omega arith) ∙ ap sum (take_all (length xs) xs (omega arith))
+summed_list f xs d = front (length xs) (omega arith) ∙ ap (sum_by f) (take_all (length xs) xs (omega arith))
   where
-    front : (n : ℕ) → n ≤ length xs → summed (λ o. get_or xs o 0) n ≡ sum (take n xs)
+    front : (n : ℕ) → n ≤ length xs → summed (λ o. f (get_or xs o d)) n ≡ sum_by f (take n xs)
     front zero h = refl
     front (suc n) h =
         let r = front n (omega arith) in
-        let m = sum_by_more (λ x. x) xs n 0 (omega arith) in
-        let s = ap (λ k. sum (take k xs)) (let z : n + 1 ≡ suc n = omega arith in z) in omega arith
+        let m = sum_by_more f xs n d (omega arith) in
+        let s = ap (λ k. sum_by f (take k xs)) (let z : n + 1 ≡ suc n = omega arith in z) in omega arith

@@ -4,7 +4,7 @@
 -- Started    a ledger without frames has come to have F of them, all free
 use Rattle.std.specs.Prelude.{◌≡◌, ℕ, List}
 use Rattle.ledger.specs.Stacks.{Filled}
-use Rattle.ledger.specs.Linked.{stacks}
+use Rattle.ledger.specs.Links.{stacks}
 use Rattle.ledger.specs.declared.ledger.Ledger.{Ledger}
 
 abbrev pub stack_of : Ledger → ℕ → List ℕ

@@ -1,3 +1,4 @@
 pub mod Stacks
 pub mod Linked
+pub mod Links
 pub mod Ledgers

@@ -1,6 +1,6 @@
 //! The ledger, and what it always keeps.
 ghost use Rattle.std.specs.Prelude.{◌≡◌};
-ghost use Rattle.ledger.specs.Linked.{many, Sound};
+ghost use Rattle.ledger.specs.Links.{many};
 
 mod calls;
 mod questions;
@@ -13,7 +13,6 @@ pub struct Ledger {
     frames: u16,
     links: Links,
     ghost all: { many links ≡ frames },
-    ghost sound: { Sound links },
 }
 
 /// A ledger was not started: it has frames already, or they were to be more than 4,096.

@@ -14,6 +14,7 @@ struct Bid {
 impl Order for Bid {
     ghost leads = { λ a b. (if nat_eq a.class b.class then nat_le b.number a.number else nat_lt a.class b.class) };
 
+    // Kept: an impl may name no lemma of proofs/, and one of specs/ would be found by the same search.
     ghost total = { Prim.search rules };
 
     ghost chain = { Prim.search rules };
@@ -32,8 +33,7 @@ fn of_class(class: u8, number: u16) -> Bid {
 }
 
 fn owner_of(root: Option<(usize, &Bid)>) -> Option<usize> {
-    let (owner, _) = root?;
-    Some(owner)
+    root.map(|(owner, _)| owner)
 }
 
 #[test]

@@ -36,10 +36,7 @@ impl Ledger {
         ensures moved { MatchOption result ((self.new ≡ self.old) × (to ≤ 256 → (from ≢ to) → stack_of self.old from ≡ [])) (λ f. Moved (stack_of self.old) (stack_of self.new) from to f) }
         ensures frames { self.new.frames ≡ self.old.frames }
     {
-        if to > 256 || from == to {
-            return None;
-        }
-        if self.links.is_empty(from) {
+        if to > 256 || from == to || self.links.is_empty(from) {
             return None;
         }
         Some(self.links.shift(from, to))

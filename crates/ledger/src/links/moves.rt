@@ -1,15 +1,16 @@
 //! What is read of the links, and how they change.
 ghost use Rattle.std.specs.Prelude.{◌≡◌, ℕ, ◌+◌, ◌<◌, ◌≤◌, [], length, MatchBool, ◌≢◌, slice_index};
 ghost use Rattle.ledger.specs.Stacks.{Filled, Moved, Freed};
-ghost use Rattle.ledger.specs.Linked.{stacks, many, Sound};
+ghost use Rattle.ledger.specs.Links.{stacks, many};
 
-use super::Links;
+use super::{Links, Stack};
 
 // Links each frame from 1 on to the next.
 fn link_down(below: &mut [u16], frames: u16)
     requires { (frames < length below.old) × (frames ≤ 4096) }
     ensures { (f : ℕ) → 1 ≤ f → f ≤ frames → slice_index below.new f ≡ f + 1 }
 {
+    // Kept: the index is the frame itself; `for (frame, under) in (1..=frames).zip(&mut below[1..])` says no less and no more.
     for frame in 1..=frames {
         below[frame as usize] = frame + 1;
     }
@@ -18,14 +19,12 @@ fn link_down(below: &mut [u16], frames: u16)
 impl Links {
     // Stacks without frames.
     pub(crate) fn blank() -> Links
-        ensures sound { Sound result }
         ensures many { many result ≡ 0 }
         ensures stacks { (o : ℕ) → stacks result o ≡ [] }
     {
         Links {
             below: [0; 4097],
-            top: [0; 257],
-            height: [0; 257],
+            stacks: [Stack { top: 0, height: 0 }; 257],
         }
     }
 
@@ -33,11 +32,7 @@ impl Links {
     pub(crate) fn height_of(&self, owner: usize) -> u16
         ensures { result ≡ length (stacks self.now owner) }
     {
-        if owner < self.height.len() {
-            self.height[owner]
-        } else {
-            0
-        }
+        self.stacks.get(owner).map_or(0, |stack| stack.height)
     }
 
     // Whether an owner's stack has no frame.
@@ -50,37 +45,40 @@ impl Links {
     // Puts the first frames into the free stack, where no stack has any.
     pub(crate) fn fill(&mut self, frames: u16)
         requires { (many self.old ≡ 0) × (frames ≤ 4096) }
-        ensures sound { Sound self.new }
         ensures many { many self.new ≡ frames }
         ensures filled { Filled (stacks self.new) frames }
     {
         link_down(&mut self.below, frames);
-        self.top[0] = 1;
-        self.height[0] = frames;
+        self.stacks[0] = Stack {
+            top: 1,
+            height: frames,
+        };
     }
 
     // Moves the top frame of a stack that has one onto another.
     pub(crate) fn shift(&mut self, from: usize, to: usize) -> u16
-        requires { Sound self.old × (from < 257) × (to < 257) × (from ≢ to) × (0 < length (stacks self.old from)) }
-        ensures sound { Sound self.new }
+        requires { (from < 257) × (to < 257) × (from ≢ to) × (0 < length (stacks self.old from)) }
         ensures many { many self.new ≡ many self.old }
         ensures moved { Moved (stacks self.old) (stacks self.new) from to result }
     {
-        let frame = self.top[from];
-        let next = self.below[frame as usize];
-        let under = self.top[to];
-        self.below[frame as usize] = under;
-        self.top[from] = next;
-        self.top[to] = frame;
-        self.height[from] -= 1;
-        self.height[to] += 1;
+        let giver = self.stacks[from];
+        let taker = self.stacks[to];
+        let frame = giver.top;
+        self.stacks[from] = Stack {
+            top: self.below[frame as usize],
+            height: giver.height - 1,
+        };
+        self.stacks[to] = Stack {
+            top: frame,
+            height: taker.height + 1,
+        };
+        self.below[frame as usize] = taker.top;
         frame
     }
 
     // Moves all frames of an owner other than 0 onto the free stack, one after the other.
     pub(crate) fn release(&mut self, owner: usize) -> u16
-        requires { Sound self.old × (owner ≢ 0) }
-        ensures sound { Sound self.new }
+        requires { (owner ≢ 0) }
         ensures many { many self.new ≡ many self.old }
         ensures freed { Freed (stacks self.old) (stacks self.new) owner result }
     {

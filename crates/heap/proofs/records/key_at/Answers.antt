@@ -3,12 +3,6 @@ use Rattle.heap.specs.Heaps.{key_of}
 use Rattle.heap.proofs.Writes.{key_read}
 use Rattle.heap.proofs.records.key_at.Goals as goal
 
-pub offset_bounds-records-owner : goal.offset_bounds-records-owner
-offset_bounds-records-owner g c = omega (arith, c.requires.0.1 c.args.i c.requires.1, c.owner_at-owner.ensures)
-
-pub bounds-records-owner : goal.bounds-records-owner
-bounds-records-owner g c = omega (arith, c.requires.0.1 c.args.i c.requires.1, c.owner_at-owner.ensures)
-
 pub returns : goal.returns
 returns g c =
     let xs = c.args.records.now in

@@ -1,26 +1,9 @@
 use Rattle.std.proofs.Common.{◌<◌, ◌∙◌, arith}
 use Rattle.heap.specs.Heaps.{key_at}
-use Rattle.heap.proofs.Orders.{lawful, none_first_lawful}
-use Rattle.heap.proofs.Trees.{sink, sunk, at_bottom}
+use Rattle.heap.proofs.Orders.{key_laws}
+use Rattle.heap.proofs.Trees.{sink}
 use Rattle.heap.proofs.Exchanges.{exchanged_placed, exchanged_keys, exchanged_swaps}
-use Rattle.heap.proofs.Parts.{placed_ordered}
 use Rattle.heap.proofs.sifts.sift_down.Goals as goal
-
-pub returns-then-leads_at : goal.returns-then-leads_at
-returns-then-leads_at g c =
-    let l = c.loop-at in
-    record {
-      heap = placed_ordered g.K.Order.leads l.records c.args.count l.invariant.0 (sunk (none_first_lawful (lawful g.met.K.Order.total g.met.K.Order.chain)) (key_at l.records) l.at c.first_below-below.result c.args.count l.invariant.2 c.first_below-below.ensures c.if-leads_at.ensures);
-      map = l.invariant.3;
-    }
-
-pub returns : goal.returns
-returns g c =
-    let l = c.loop-at in
-    record {
-      heap = placed_ordered g.K.Order.leads l.records c.args.count l.invariant.0 (at_bottom (none_first_lawful (lawful g.met.K.Order.total g.met.K.Order.chain)) (key_at l.records) l.at c.args.count l.invariant.2 (omega arith));
-      map = l.invariant.3;
-    }
 
 pub loop-at-preserved : goal.loop-at-preserved
 loop-at-preserved g c =
@@ -34,6 +17,6 @@ loop-at-preserved g c =
     let apart : j < k = let u = first.below.under in let z = first.below.deep in omega arith in (
       exchanged_placed xs ys j k n l.invariant.1 first.below.within (λ z. omega arith) l.invariant.0 c.exchange.ensures,
       first.below.within,
-      sink (none_first_lawful (lawful g.met.K.Order.total g.met.K.Order.chain)) (key_at xs) (key_at ys) j k n first c.if-leads_at.ensures (exchanged_swaps xs ys j k c.exchange.ensures) l.invariant.2,
+      sink (key_laws g.met.K.Order.total g.met.K.Order.chain) (key_at xs) (key_at ys) j k n first c.if-leads_at.ensures (exchanged_swaps xs ys j k c.exchange.ensures) l.invariant.2,
       λ o. exchanged_keys xs ys j k n l.invariant.1 first.below.within (λ z. omega arith) l.invariant.0 c.exchange.ensures o ∙ l.invariant.3 o,
     )

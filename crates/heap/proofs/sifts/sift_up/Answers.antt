@@ -1,27 +1,9 @@
 use Rattle.std.proofs.Common.{◌∙◌, arith}
 use Rattle.heap.specs.Heaps.{above, key_at}
-use Rattle.heap.proofs.Orders.{lawful, none_first_lawful}
-use Rattle.heap.proofs.Trees.{rise, risen, at_top}
+use Rattle.heap.proofs.Orders.{key_laws}
+use Rattle.heap.proofs.Trees.{rise}
 use Rattle.heap.proofs.Exchanges.{exchanged_placed, exchanged_keys, exchanged_swaps}
-use Rattle.heap.proofs.Parts.{placed_ordered}
 use Rattle.heap.proofs.sifts.sift_up.Goals as goal
-
-pub returns-then-leads_at : goal.returns-then-leads_at
-returns-then-leads_at g c =
-    let l = c.loop-at in
-    let f = key_at l.records in
-    record {
-      heap = placed_ordered g.K.Order.leads l.records c.args.count l.invariant.0 (risen (none_first_lawful (lawful g.met.K.Order.total g.met.K.Order.chain)) f l.at c.args.count l.invariant.2 c.if-leads_at.ensures);
-      map = l.invariant.3;
-    }
-
-pub returns : goal.returns
-returns g c =
-    let l = c.loop-at in
-    record {
-      heap = placed_ordered g.K.Order.leads l.records c.args.count l.invariant.0 (at_top (none_first_lawful (lawful g.met.K.Order.total g.met.K.Order.chain)) (key_at l.records) l.at c.args.count l.invariant.2 (omega arith));
-      map = l.invariant.3;
-    }
 
 pub loop-at-preserved : goal.loop-at-preserved
 loop-at-preserved g c =
@@ -33,6 +15,6 @@ loop-at-preserved g c =
     let p = above j in (
       exchanged_placed xs ys p j n (omega arith) l.invariant.1 (λ z. omega arith) l.invariant.0 c.exchange.ensures,
       omega arith,
-      rise (none_first_lawful (lawful g.met.K.Order.total g.met.K.Order.chain)) (key_at xs) (key_at ys) j n (omega arith) l.invariant.1 c.if-leads_at.ensures (exchanged_swaps xs ys p j c.exchange.ensures) l.invariant.2,
+      rise (key_laws g.met.K.Order.total g.met.K.Order.chain) (key_at xs) (key_at ys) j n (omega arith) l.invariant.1 c.if-leads_at.ensures (exchanged_swaps xs ys p j c.exchange.ensures) l.invariant.2,
       λ o. exchanged_keys xs ys p j n (omega arith) l.invariant.1 (λ z. omega arith) l.invariant.0 c.exchange.ensures o ∙ l.invariant.3 o,
     )

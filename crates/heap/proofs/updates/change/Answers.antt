@@ -1,6 +1,6 @@
 use Rattle.std.proofs.Common.{◌≡◌, ◌<◌, ◌∙◌, arith}
 use Rattle.heap.specs.Heaps.{place_of, key_at}
-use Rattle.heap.proofs.Orders.{lawful, none_first_lawful}
+use Rattle.heap.proofs.Orders.{key_laws}
 use Rattle.heap.proofs.Trees.{gap}
 use Rattle.heap.proofs.Members.{some_in, some_within, present_some}
 use Rattle.heap.proofs.Changes.{rekeyed_placed, rekeyed_apart, rekeyed_keys}
@@ -27,7 +27,7 @@ settle-requires g c =
     let l : i < n = let z = s.low in omega arith in (
       rekeyed_placed xs ys n o c.args.key c.rekey.ensures x,
       l,
-      gap (none_first_lawful (lawful g.met.K.Order.total g.met.K.Order.chain)) (key_at xs) (key_at ys) i n n (omega arith) l c.requires.0.3 (λ k h d. rekeyed_apart xs ys n o c.args.key c.rekey.ensures x k h (λ e. d (let z : k ≡ i = omega arith in z))),
+      gap (key_laws g.met.K.Order.total g.met.K.Order.chain) (key_at xs) (key_at ys) i n n (omega arith) l c.requires.0.3 (λ k h d. rekeyed_apart xs ys n o c.args.key c.rekey.ensures x k h (λ e. d (let z : k ≡ i = omega arith in z))),
     )
 
 pub returns : goal.returns

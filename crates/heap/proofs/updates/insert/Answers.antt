@@ -1,6 +1,6 @@
 use Rattle.std.proofs.Common.{is_some, ap, ◌∙◌, arith}
 use Rattle.heap.specs.Heaps.{key_at, present}
-use Rattle.heap.proofs.Orders.{lawful, none_first_lawful}
+use Rattle.heap.proofs.Orders.{key_laws}
 use Rattle.heap.proofs.Trees.{added}
 use Rattle.heap.proofs.Members.{none_out}
 use Rattle.heap.proofs.Room.{room}
@@ -31,7 +31,7 @@ sift_up-requires g c =
     let free = room xs n o x c.requires.1 out in (
       added_placed xs ys n o k c.rekey.ensures zs c.seat.ensures x free c.requires.1 out,
       omega arith,
-      added (none_first_lawful (lawful g.met.K.Order.total g.met.K.Order.chain)) (key_at xs) (key_at zs) n c.requires.0.3 (added_apart xs ys n o k c.rekey.ensures zs c.seat.ensures x free c.requires.1 out),
+      added (key_laws g.met.K.Order.total g.met.K.Order.chain) (key_at xs) (key_at zs) n c.requires.0.3 (added_apart xs ys n o k c.rekey.ensures zs c.seat.ensures x free c.requires.1 out),
     )
 
 pub returns : goal.returns

@@ -1,9 +1,7 @@
 use Rattle.std.proofs.Common.{◌≡◌, ◌-◌, ◌≤◌, refl, ap, ◌∙◌, arith}
-use Rattle.heap.specs.Heaps.{owner_at, place_of, key_at, keys, Placed}
-use Rattle.heap.proofs.Orders.{lawful, none_first_lawful}
-use Rattle.heap.proofs.Trees.{gap}
-use Rattle.heap.proofs.Members.{some_in, some_within, present_some, placed_less}
-use Rattle.heap.proofs.Exchanges.{exchanged_placed, exchanged_keys, exchanged_swaps}
+use Rattle.heap.specs.Heaps.{owner_at, place_of, keys, Placed}
+use Rattle.heap.proofs.Members.{some_in, some_within, present_some}
+use Rattle.heap.proofs.Exchanges.{exchanged_placed, exchanged_keys}
 use Rattle.heap.proofs.Changes.{cut_keys, change_over}
 use Rattle.heap.proofs.Parts.{heap_placed, heap_less}
 use Rattle.heap.proofs.updates.remove.Goals as goal
@@ -13,17 +11,6 @@ place_of-place-requires g c = some_within c.args.records.now c.args.count c.args
 
 pub overflow_sub-last : goal.overflow_sub-last
 overflow_sub-last g c = let l = (some_in c.args.records.now c.args.count c.args.owner c.requires.1).low in omega arith
-
-pub settle-requires : goal.settle-requires
-settle-requires g c =
-    let xs = c.args.records.now in
-    let ys = c.exchange.new.records in
-    let n = c.args.count in
-    let p = c.place_of-place.result in (
-      placed_less ys (n - 1) n (omega arith) (exchanged_placed xs ys p (n - 1) n (omega arith) (omega arith) (λ e. omega arith) (heap_placed g.K.Order.leads xs n c.requires.0) c.exchange.ensures),
-      c.if-place-last.true,
-      gap (none_first_lawful (lawful g.met.K.Order.total g.met.K.Order.chain)) (key_at xs) (key_at ys) p n (n - 1) (omega arith) (omega arith) c.requires.0.3 (λ i h d. (exchanged_swaps xs ys p (n - 1) c.exchange.ensures).2 i d (λ e. omega arith)),
-    )
 
 pub returns-then-place-last : goal.returns-then-place-last
 returns-then-place-last g c =

@@ -1,4 +1,4 @@
-use Rattle.heap.proofs.Heaps.{empty_keys}
+use Rattle.heap.proofs.Members.{empty_keys}
 use Rattle.heap.proofs.indexed.IndexedHeap.new.Goals as goal
 
 pub returns : goal.returns
