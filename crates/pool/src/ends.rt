@@ -1,4 +1,4 @@
-//! The clients that have an estimate, with the ticks at which the estimates end, the earliest first.
+//! The ends of estimates, as the keys of a heap: the earliest leads.
 ghost use Rattle.pool.specs.Ticks.{leads};
 ghost use Rattle.laws.proofs.Lines.{one_leads, leads_on};
 
