@@ -33,12 +33,10 @@ fn form(c: char) -> Option<Form>
 fn digits(bytes: &[u8]) -> usize
     ensures { Run bytes.now result }
 {
-    for (i, b) in bytes.iter().enumerate() {
-        if !b.is_ascii_digit() {
-            return i;
-        }
-    }
-    bytes.len()
+    bytes
+        .iter()
+        .position(|b| !b.is_ascii_digit())
+        .unwrap_or(bytes.len())
 }
 
 impl<'a> Reader<'a> {
