@@ -1,6 +1,11 @@
 -- Digits, and the numbers that they write in decimal.
-use Rattle.std.proofs.Common.{◌≡◌, ℕ, ◌^◌, ◌<◌, true, false, List, [], ◌∷◌, ◌++◌, decimal, refl, arith}
+use Rattle.std.proofs.Common.{◌≡◌, ℕ, zero, suc, ◌+◌, ◌^◌, ◌<◌, ◌≤◌, true, false, List, [], ◌∷◌, ◌++◌, length, get_or, take, Some, None, decimal, Option, sym, refl, subst, arith}
 use Rattle.events.specs.Grammar.{NoDigit}
+use Rattle.events.specs.Reading.{Run}
+use Rattle.std.proofs.lemmas.Int.Digits.{digits_more}
+use Rattle.std.proofs.lemmas.List.{drop_more, drop_all}
+use Rattle.std.specs.List.{AllWithin, HoldsAt}
+use Rattle.std.specs.Option.{MatchOption, unwrap_or}
 use Rattle.std.proofs.lemmas.Bool.Decides.{nat_tests}
 use Rattle.std.specs.Str.Parse.{AllDigits, digits_value}
 use Rattle.std.specs.Char.{is_ascii_digit, digit_value as digitValue}
@@ -13,6 +18,29 @@ own = numerals_by_value (AllDigits 10) tells_digits
 
 pub digit_counts : (b : ℕ) → is_ascii_digit b ≡ true → digitValue b < 10
 digit_counts b h = grind (arith, nat_tests)
+
+-- where no byte before a place is other than a digit, digits stand there
+digits_to : (bs : List ℕ) (i : ℕ) → i ≤ length bs → AllWithin (λ b. is_ascii_digit b ≡ true) bs 0 i → AllDigits 10 (take i bs)
+digits_to bs zero h all = tt
+digits_to bs (suc i) h all =
+    let next : i + 1 ≡ suc i = omega arith in
+    let before = digits_to bs i (omega arith) (λ k d low high. all k d low (omega arith)) in
+    subst (λ n. AllDigits 10 (take n bs)) next (digits_more 10 bs i (omega arith) before (digit_counts (get_or bs i 0) (all i 0 (omega arith) (omega arith))))
+
+-- the digits before the first byte that is none, or before the end
+pub run_to : (bs : List ℕ) (r : Option ℕ) →
+    MatchOption r (AllWithin (λ b. is_ascii_digit b ≡ true) bs 0 (length bs)) (λ i. (i < length bs) × HoldsAt (λ b. is_ascii_digit b ≡ false) bs i × AllWithin (λ b. is_ascii_digit b ≡ true) bs 0 i) →
+    Run bs (unwrap_or r (length bs))
+run_to bs None all = record {
+  within = omega arith;
+  all = digits_to bs (length bs) (omega arith) all;
+  ended = subst NoDigit (sym (drop_all (length bs) bs (omega arith))) tt;
+}
+run_to bs (Some i) first = record {
+  within = omega (arith, first.0);
+  all = digits_to bs i (omega (arith, first.0)) first.2;
+  ended = subst NoDigit (sym (drop_more bs i 0 first.0)) (first.1 0);
+}
 
 pub decimal_digits : (n : ℕ) → n < 2 ^ 32 → AllDigits 10 (decimal n)
 decimal_digits n small = digits_decimal own n (omega arith)

@@ -33,12 +33,10 @@ fn form(c: char) -> Option<Form>
 fn digits(bytes: &[u8]) -> usize
     ensures { Run bytes.now result }
 {
-    for (i, b) in bytes.iter().enumerate() {
-        if !b.is_ascii_digit() {
-            return i;
-        }
-    }
-    bytes.len()
+    bytes
+        .iter()
+        .position(|b| !b.is_ascii_digit())
+        .unwrap_or(bytes.len())
 }
 
 impl<'a> Reader<'a> {
@@ -111,16 +109,13 @@ impl<'a> Reader<'a> {
         ensures line { self.new.line ≡ self.old.line }
         ensures cases { MatchResult result (λ w. Found due self.old.line.now self.old.at w self.new.at) (λ f. Missed due self.old.line.now self.old.at f self.new.at) }
     {
-        match self.word(due) {
-            Some(word) => {
-                self.at += word.text().len();
-                Ok(word)
-            }
-            None => Err(Fault {
-                kind: due.missing(),
-                column: self.at + 1,
-            }),
-        }
+        let fault = Fault {
+            kind: due.missing(),
+            column: self.at + 1,
+        };
+        let word = self.word(due).ok_or(fault)?;
+        self.at += word.text().len();
+        Ok(word)
     }
 
     /// That the line ends at the cursor.
