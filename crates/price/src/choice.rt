@@ -1,7 +1,6 @@
 //! A price that is one of two.
 ghost use Rattle.either.specs.Either.{either};
 ghost use Rattle.either.specs.declared.Either.TheVariants.{Left, Right};
-ghost use Rattle.rules.specs.Offers.{Lawful};
 
 use crate::offer::ValidOffer;
 use crate::telling::Price;
