@@ -5,6 +5,7 @@ ghost use Rattle.std.specs.Prelude.{IfOk};
 use events::{LineFault, Lines, read};
 use std::io;
 use std::io::Write;
+use text::Line;
 
 /// How many lines an input has, and how many of them are events.
 #[derive(Clone, Copy, Drop)]

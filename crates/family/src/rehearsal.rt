@@ -10,10 +10,8 @@ use rules::{Answer, Refusal};
 fn obey<P: Price>(brokers: &mut [Broker<P>], order: Order) -> Option<Answer>
     ensures { Obeyed P.Price.meaning brokers.old order result brokers.new }
 {
-    if order.broker >= brokers.len() {
-        return None;
-    }
-    Some(brokers[order.broker].perform(order.call))
+    let broker = brokers.get_mut(order.broker)?;
+    Some(broker.perform(order.call))
 }
 
 /// Performs the orders in turn, each on its broker, and writes the answer of each into its place. An order for a broker
@@ -29,8 +27,8 @@ pub fn rehearse<P: Price>(
     if answers.len() < orders.len() {
         return Err(Refusal::BufferTooShort);
     }
-    for i in 0..orders.len() {
-        answers[i] = obey(brokers, orders[i]);
+    for (answer, order) in answers.iter_mut().zip(orders) {
+        *answer = obey(brokers, *order);
     }
     Ok(())
 }

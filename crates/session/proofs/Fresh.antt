@@ -24,6 +24,11 @@ module _ {P : Type 0} (meaning : P → Meaning) (r : Run P) (under : P) (input :
   abbrev rest : List ℕ
   rest = r.lines.rest.now
 
+  some_cut : (vs : List Printed) → Gives meaning r vs → (texts : List (List ℕ)) × Cut input texts
+  some_cut vs gives =
+      let (lines, own, printed) = subst (λ (s : Stage). StillAt m b r.number rest s vs) reading (gives_all meaning r vs gives kept) in
+      (lines, subst (λ (t : List ℕ). Cut t lines) whole own)
+
   all : (vs : List Printed) (texts : List (List ℕ)) → Gives meaning r vs → Cut input texts → PrintsAll (meaning under) rules.new_broker 1 texts vs
   all vs texts gives cut =
       let (lines, own, printed) = subst (λ (s : Stage). StillAt m b r.number rest s vs) reading (gives_all meaning r vs gives kept) in
@@ -34,4 +39,4 @@ module _ {P : Type 0} (meaning : P → Meaning) (r : Run P) (under : P) (input :
       (subst (λ (n : ℕ). PrintsAll m b (n + 1) lines vs) first printed)))
 
   pub fresh : Fresh meaning under input r
-  fresh = record { led = (subst (λ (v : rules.Broker). history.Run m rules.new_broker [] v) (sym new) history.start, kept); guarantees = subst (λ (p : P). Guaranteed (meaning p)) price guarantees; price = price; prints = all; only = λ vs ws texts gives cut other. prints_once (meaning under) rules.new_broker 1 texts ws vs other (all vs texts gives cut) }
+  fresh = record { led = (subst (λ (v : rules.Broker). history.Run m rules.new_broker [] v) (sym new) history.start, kept); guarantees = subst (λ (p : P). Guaranteed (meaning p)) price guarantees; price = price; cut = some_cut; prints = all; only = λ vs ws texts gives cut other. prints_once (meaning under) rules.new_broker 1 texts ws vs other (all vs texts gives cut) }

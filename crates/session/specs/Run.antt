@@ -13,8 +13,14 @@
 -- Nexts       the next value, or none where nothing is left
 -- Gives       these are the values that a run gives one after another, until it gives none
 -- GivesAll    a run has given its values, until it gave none
+-- ended       the line of a value and its newline
+-- lines       these of several values, one after another
+-- PrintsRun   what a writer holds has grown by the lines of all that a run gives
+-- Serves      it has grown by the lines of all that is printed of an input on a new broker
 -- Fresh       whatever a new run gives is what is printed of its input on a new broker
 use Rattle.std.specs.Prelude.{◌≡◌, ℕ, zero, suc, ◌+◌, ◌-◌, ◌<◌, List, [], ◌∷◌, ◌++◌, length, Some, None, Option}
+use Rattle.std.specs.List.{flat_map}
+use Rattle.std.specs.Io.KnownBytes.{Appends}
 use Rattle.rules.specs.Offers.{Meaning}
 use Rattle.events.specs.Input.{Cut}
 use Rattle.laws.specs.Broker as rules
@@ -29,6 +35,7 @@ use Rattle.session.specs.declared.printed.Printed.TheVariants as line
 use Rattle.session.specs.declared.run.Stage.{Stage}
 use Rattle.session.specs.declared.run.Stage.TheVariants as stage
 pub use Rattle.session.specs.declared.run.Run.{Run}
+use Rattle.session.specs.Printed.{printed_line}
 use Rattle.session.specs.Session.{LinePrints}
 
 abbrev pub held_at : Meaning → rules.Broker → ℕ → ℕ → Option Held
@@ -86,9 +93,29 @@ pub record Fresh {P : Type 0} (meaning : P → Meaning) (under : P) (input : Lis
   pub led : Led meaning [] r.session.broker
   pub guarantees : Guaranteed (meaning under)
   pub price : r.session.broker.price ≡ under
+  -- the input consists of some lines
+  pub cut : (vs : List Printed) → Gives meaning r vs → (texts : List (List ℕ)) × Cut input texts
   pub prints : (vs : List Printed) (texts : List (List ℕ)) → Gives meaning r vs → Cut input texts → PrintsAll (meaning under) rules.new_broker 1 texts vs
   -- and nothing else is
   pub only : (vs ws : List Printed) (texts : List (List ℕ)) → Gives meaning r vs → Cut input texts → PrintsAll (meaning under) rules.new_broker 1 texts ws → ws ≡ vs
 
 abbrev pub GivesAll : {P : Type 0} → (P → Meaning) → Run P → Type 0
 GivesAll meaning r = (vs : List Printed) × Gives meaning r vs
+
+abbrev pub ended : Printed → List ℕ
+ended v = printed_line v ++ 10 ∷ []
+
+abbrev pub lines : List Printed → List ℕ
+lines vs = flat_map ended vs
+
+pub record PrintsRun {P : Type 0} (meaning : P → Meaning) (r : Run P) (before after : Option (List ℕ)) : Type 0 where
+  pub all : List Printed
+  pub gives : Gives meaning r all
+  pub prints : Appends before after (lines all)
+
+pub record Serves (m : Meaning) (input : List ℕ) (before after : Option (List ℕ)) : Type 0 where
+  pub texts : List (List ℕ)
+  pub all : List Printed
+  pub cut : Cut input texts
+  pub prints : PrintsAll m rules.new_broker 1 texts all
+  pub written : Appends before after (lines all)

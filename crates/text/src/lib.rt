@@ -1,6 +1,8 @@
 //! Lines of text put together in fixed memory, and written into a lent buffer or refused.
 #![tactic(auto)]
 
+mod line;
 mod text;
 
+pub use line::Line;
 pub use text::Text;

@@ -3,7 +3,8 @@ ghost use Rattle.std.specs.Prelude.{◌≡◌, ◌+◌, ◌^◌, ◌<◌, length
 ghost use Rattle.session.specs.declared.run.Stage.TheVariants.{Reading, Reporting};
 ghost use Rattle.session.specs.declared.printed.Printed.TheVariants.{Free, Client};
 ghost use Rattle.session.specs.Session.{Lined};
-ghost use Rattle.session.specs.Run.{held_of, Fresh, Nexts};
+ghost use Rattle.session.specs.Run.{held_of, left, Fresh, Nexts};
+ghost use Rattle.std.specs.Iterator.{at_most};
 ghost use Rattle.broker.specs.View.{view};
 
 use super::{Run, Stage};
@@ -11,6 +12,7 @@ use crate::printed::Printed;
 use crate::session::Session;
 use events::Lines;
 use price::Price;
+use std::marker::PhantomData;
 
 impl<'a, P: Price> Run<'a, P> {
     /// A run of an input on a new broker under a price.
@@ -22,6 +24,7 @@ impl<'a, P: Price> Run<'a, P> {
             lines: Lines::new(input),
             number: 0,
             stage: Stage::Reading,
+            broker: PhantomData,
         }
     }
 
@@ -78,17 +81,20 @@ impl<'a, P: Price> Run<'a, P> {
         requires { self.old.stage ≡ Reporting after }
         ensures { Nexts P.Price.meaning self.old result self.new }
     {
-        match self.session.broker.next_client(after) {
-            Some(client) => Some(self.report_client(client)),
-            None => None,
-        }
+        let client = self.session.broker.next_client(after)?;
+        Some(self.report_client(client))
     }
+}
 
-    /// What is printed next: of the next line, then the free frames, then of each client by rising number, and then nothing
-    /// more.
-    pub fn next(&mut self) -> Option<Printed>
-        ensures { Nexts P.Price.meaning self.old result self.new }
-    {
+/// What is printed of each line, then the free frames, then of each client by rising number.
+impl<P: Price + Drop> Iterator for Run<'_, P> {
+    type Item = Printed;
+
+    ghost next_gives = { Nexts P.Price.meaning };
+
+    ghost remaining = { λ run. at_most (left run) };
+
+    fn next(&mut self) -> Option<Printed> {
         match self.stage {
             Stage::Reading => Some(self.next_line()),
             Stage::Reporting { after } => self.next_client(after),

@@ -34,7 +34,7 @@ impl<P: Price> Session<P> {
         if former == 0 {
             return Ok(None);
         }
-        Ok(Some(self.loser(former)?))
+        self.loser(former).map(Some)
     }
 
     // What is printed of a slip just granted.

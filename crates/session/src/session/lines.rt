@@ -15,13 +15,12 @@ use rules::Refusal;
 fn numbered(number: u64, outcome: Result<Printed, Refusal>) -> Printed
     ensures { result ≡ told number outcome }
 {
-    match outcome {
-        Ok(printed) => printed,
-        Err(refusal) => Printed::Refused(LineFault {
+    outcome.unwrap_or_else(|refusal| {
+        Printed::Refused(LineFault {
             line: number,
             refusal,
-        }),
-    }
+        })
+    })
 }
 
 impl<P: Price> Session<P> {

@@ -12,12 +12,8 @@ impl<P: Price> Session<P> {
     pub(crate) fn held(&self, client: u32) -> Option<Held>
         ensures { result ≡ held_of (P.Price.meaning self.now.broker.price) (view self.now.broker) client }
     {
-        let Ok(frames) = self.broker.holding(client) else {
-            return None;
-        };
-        let Ok(price) = self.broker.price_at(client, frames) else {
-            return None;
-        };
+        let frames = self.broker.holding(client).ok()?;
+        let price = self.broker.price_at(client, frames).ok()?;
         Some(Held { frames, price })
     }
 }
