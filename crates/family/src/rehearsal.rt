@@ -10,8 +10,11 @@ use rules::{Answer, Refusal};
 fn obey<P: Price>(brokers: &mut [Broker<P>], order: Order) -> Option<Answer>
     ensures { Obeyed P.Price.meaning brokers.old order result brokers.new }
 {
-    let broker = brokers.get_mut(order.broker)?;
-    Some(broker.perform(order.call))
+    // Kept: `get_mut` says nothing of what the brokers are left as, so the broker is called by its place.
+    if order.broker >= brokers.len() {
+        return None;
+    }
+    Some(brokers[order.broker].perform(order.call))
 }
 
 /// Performs the orders in turn, each on its broker, and writes the answer of each into its place. An order for a broker
@@ -27,8 +30,9 @@ pub fn rehearse<P: Price>(
     if answers.len() < orders.len() {
         return Err(Refusal::BufferTooShort);
     }
-    for (answer, order) in answers.iter_mut().zip(orders) {
-        *answer = obey(brokers, *order);
+    // Kept: of places that are written through a zip with the orders nothing is known behind the loop.
+    for (i, order) in orders.iter().enumerate() {
+        answers[i] = obey(brokers, *order);
     }
     Ok(())
 }

@@ -1,0 +1,5 @@
+use Rattle.family.proofs.Obeying.{Sofar}
+use Rattle.family.proofs.rehearsal.rehearse.Given as goal
+
+abbrev pub invariant-loop-i : goal.invariant-loop-i
+invariant-loop-i g l = Sofar g.P.Price.meaning l.initial.brokers l.orders l.initial.answers l.i l.brokers l.answers
