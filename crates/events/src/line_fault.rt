@@ -1,5 +1,7 @@
 //! A line that was refused, with its number.
+ghost use Rattle.std.specs.Prelude.{◌≡◌, ◌≤◌, length};
 ghost use Rattle.events.specs.Told.{told};
+ghost use Rattle.text.specs.Texts.{Placed, cut, spelt};
 
 use rules::Refusal;
 use text::{Line, Text};
@@ -15,6 +17,7 @@ pub struct LineFault {
 impl Line for LineFault {
     ghost spelling = { told };
 
+    // Kept: with `Display` `write` could not promise what it does, since `write!` never promises `Ok`.
     fn line(&self) -> Text {
         let mut text = Text::new();
         text.bytes(b"line ");

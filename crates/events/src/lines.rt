@@ -4,6 +4,8 @@ ghost use Rattle.std.specs.Option.{option_map};
 ghost use Rattle.events.specs.Input.{NextLine, NoNewline};
 ghost use Rattle.std.specs.Iterator.{at_most};
 
+use memchr::memchr;
+
 /// How many bytes of each line are read. They decide what it says.
 pub const WIDTH: usize = 80;
 
@@ -30,12 +32,7 @@ fn line_len(text: &[u8]) -> usize
     ensures plain { NoNewline (take result text.now) }
     ensures stops { result < length text.now → slice_index text.now result ≡ 10 }
 {
-    for (i, b) in text.iter().enumerate() {
-        if *b == b'\n' {
-            return i;
-        }
-    }
-    text.len()
+    memchr(b'\n', text).unwrap_or(text.len())
 }
 
 impl<'a> Iterator for Lines<'a> {

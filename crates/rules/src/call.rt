@@ -1,6 +1,4 @@
 //! The eight calls on a broker, as plain values, and what they are answered.
-use crate::refusal::Refusal;
-
 /// How many frames a client says it uses, and the tick at which that ends.
 #[derive(Clone, Copy, PartialEq, Eq, Debug, Drop)]
 pub struct Estimate {
@@ -19,61 +17,46 @@ pub struct SlipNumbers {
     pub asks: u64,
 }
 
+/// An admission that is asked for: the client's number and its terms, as a planner sends them.
+#[derive(Clone, Copy, PartialEq, Eq, Debug, Drop)]
+pub struct Admission {
+    pub client: u32,
+    pub shares: u32,
+    pub class: u32,
+    pub minimum: u32,
+    pub maximum: u32,
+}
+
 /// A call on a broker, with its numbers as a planner sends them.
 #[derive(Clone, Copy, PartialEq, Eq, Debug, Drop)]
 pub enum Call {
     /// Gives a new broker its unit number and its frames.
-    Start {
-        unit: u32,
-        frames: u32,
-    },
+    Start { unit: u32, frames: u32 },
     /// Admits a client under its terms.
-    Admit {
-        client: u32,
-        shares: u32,
-        class: u32,
-        minimum: u32,
-        maximum: u32,
-    },
+    Admit(Admission),
     /// Asks one frame for a client.
-    Ask {
-        client: u32,
-    },
+    Ask { client: u32 },
     /// Delivers a slip, which closes the passage.
-    Deliver {
-        slip: SlipNumbers,
-    },
+    Deliver { slip: SlipNumbers },
     /// Hands the top frame of a client back.
-    HandBack {
-        client: u32,
-    },
+    HandBack { client: u32 },
     /// Lets a client go with all its frames.
-    Leave {
-        client: u32,
-    },
+    Leave { client: u32 },
     /// Sets a client's estimate.
-    SetEstimate {
-        client: u32,
-        active: u32,
-        end: u32,
-    },
+    SetEstimate { client: u32, estimate: Estimate },
     /// Sets the clock.
-    SetClock {
-        tick: u32,
-    },
+    SetClock { tick: u32 },
 }
 
-/// What a call is answered.
+/// What an accepted call is answered. One that is refused changes nothing, and is answered by its refusal.
 #[derive(Clone, Copy, PartialEq, Eq, Debug, Drop)]
 pub enum Answer {
-    /// Accepted, with nothing more to say: a start, an admission, a delivery, an estimate.
+    /// Nothing more: a start, an admission, a delivery, an estimate.
     Done,
-    /// An ask accepted, with its slip.
+    /// The slip of an ask.
     Granted(SlipNumbers),
     /// The frame that was handed back.
     Frame(u32),
     /// How many frames a client left, or how many estimates the clock ended.
     Count(u32),
-    /// Refused, which changes nothing.
-    Refused(Refusal),
 }

@@ -7,6 +7,6 @@ pub mod laws;
 mod offer;
 mod refusal;
 
-pub use call::{Answer, Call, Estimate, SlipNumbers};
+pub use call::{Admission, Answer, Call, Estimate, SlipNumbers};
 pub use offer::{Bid, Offer, Quote, Terms};
 pub use refusal::{Fault, FaultKind, Refusal};

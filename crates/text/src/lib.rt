@@ -2,7 +2,9 @@
 #![tactic(auto)]
 
 mod line;
+mod number;
 mod text;
 
 pub use line::Line;
+pub use number::plain_number;
 pub use text::Text;

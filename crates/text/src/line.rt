@@ -15,7 +15,7 @@ pub trait Line {
 
     /// The line, without a newline.
     fn line(&self) -> Text
-        ensures line { spelt result ≡ spelling self.now };
+        ensures { spelt result ≡ spelling self.now };
 
     /// Writes the line, without a newline, to the front of a lent buffer and answers its length, at most 128. A buffer
     /// too short for it stays as it was.

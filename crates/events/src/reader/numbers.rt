@@ -40,8 +40,8 @@ impl Reader<'_> {
         ensures cases { MatchResult result (λ ns. Behind self.old.line.now form.kind (take (count form.kind) ns) self.new.at × (length ns ≡ 5)) (FirstFault self.old.line.now) }
     {
         let mut numbers = [0; 5];
-        for i in 0..form.count {
-            numbers[i] = self.next_number()?;
+        for number in &mut numbers[..form.count] {
+            *number = self.next_number()?;
         }
         Ok(numbers)
     }

@@ -13,7 +13,8 @@ returns-in-Malformed c =
     let at = grown _ (codes " at ") kind c.bytes-in-Malformed-2.ensures in
     let column = grown _ (decimal c.in-Malformed.fault.column) at c.number-in-Malformed-3.ensures.text in
     let pieces = text_pieces c.args.self.now c.in-Malformed.fault c.number-in-Malformed.result c.in-Malformed.is c.number-in-Malformed.ensures in
-    record { line = column ∙ ap cut pieces ∙ cut_short _ (subst (λ bs. length bs ≤ 128) pieces (malformed_short _ _ _ c.number.ensures.short c.number-in-Malformed-2.ensures.short c.number-in-Malformed-3.ensures.short)) }
+    column ∙ ap cut pieces
+    ∙ cut_short _ (subst (λ bs. length bs ≤ 128) pieces (malformed_short _ _ _ c.number.ensures.short c.number-in-Malformed-2.ensures.short c.number-in-Malformed-3.ensures.short))
 
 pub returns-in_default : goal.returns-in_default
 returns-in_default c =
@@ -22,4 +23,4 @@ returns-in_default c =
     let refused = grown _ (codes " refused ") line c.bytes-in_default.ensures in
     let why = grown _ (decimal c.number-in_default.result) refused c.number-in_default-2.ensures.text in
     let pieces = refused_pieces c.args.self.now c.number-in_default.result c.in_default.not-Malformed c.number-in_default.ensures in
-    record { line = why ∙ ap cut pieces ∙ cut_short _ (subst (λ bs. length bs ≤ 128) pieces (refused_short _ _ c.number.ensures.short c.number-in_default-2.ensures.short)) }
+    why ∙ ap cut pieces ∙ cut_short _ (subst (λ bs. length bs ≤ 128) pieces (refused_short _ _ c.number.ensures.short c.number-in_default-2.ensures.short))
