@@ -7,14 +7,12 @@ use Rattle.rules.specs.Laws.{Made}
 use Rattle.rules.proofs.Ranked.{rank_is_one_line}
 use Rattle.laws.specs.Division.{terms, minimum_of, bid_of}
 use Rattle.laws.specs.Broker.{Broker, Client, new_broker, terms_of, stack_of, present, holding, Beyond, LowestPayer, MayTake, IsOutbid}
-use Rattle.laws.specs.Questions.{LowestIs}
-use Rattle.laws.specs.ByNumber.{put}
-use Rattle.laws.proofs.Puts.{each_but, each_but_two, put_at, put_off}
+use Rattle.laws.proofs.Puts.{each_but, each_but_two}
 use Rattle.laws.proofs.One.{one_payer}
 use Rattle.heap.specs.Heaps.{Least}
 use Rattle.price.specs.declared.key.Ranked.{Ranked}
 use Rattle.price.specs.Keys.{KeyOf, outranks, leads}
-use Rattle.price.specs.Lines.{ranks_bids}
+use Rattle.price.proofs.Ranks.{ranks_bids}
 use Rattle.broker.specs.Bids.{Lists, Listed}
 
 module _ (m : Meaning) (v : Broker) where
@@ -59,10 +57,6 @@ module _ (m : Meaning) (v : Broker) where
       pub may_take_above : (c : ℕ) (j : Ranked) → Next c j → outranks j k ≡ true → MayTake m v c p
       may_take_above c j u g = (lowest_is, inr (sym (next_ranks c j u) ∙ g))
 
-      pub may_take : (c : ℕ) (j : Ranked) → Next c j → (holding v c < minimum_of (present v) c) ⊎ (outranks j k ≡ true) → MayTake m v c p
-      may_take c j u (inl g) = may_take_below c g
-      may_take c j u (inr g) = may_take_above c j u g
-
       pub is_outbid : (c : ℕ) (j : Ranked) → Next c j → minimum_of (present v) c ≤ holding v c → outranks j k ≡ false → v.free ≡ [] → IsOutbid m v c
       is_outbid c j u low under e = (e, λ q t. refuse q t.0 t.1)
         where
@@ -72,13 +66,6 @@ module _ (m : Meaning) (v : Broker) where
               both_ways (outranks j k) under
               (next_ranks c j u
               ∙ subst (λ (p : ℕ). Above m (bid_of (present v) c (holding v c + 1)) (bid_of (present v) p (holding v p))) (one_payer m v q p l lowest_is) g)
-
-  -- the answer to the question for the lowest payer
-  pub lowest_some : (ks : ℕ → Option Ranked) → Listed m v ks → (p : ℕ) (k : Ranked) → Least leads ks p k → LowestIs m v (Some p)
-  lowest_some ks all p k least = lowest_is ks all p k least
-
-  pub lowest_none : (ks : ℕ → Option Ranked) → Listed m v ks → ((o : ℕ) → ks o ≡ None) → LowestIs m v None
-  lowest_none ks all none = nobody_pays ks all none
 
   -- who may take a frame does not take it from itself
   pub not_itself : Lawful m → (c p : ℕ) → ((k : ℕ) → 1 ≤ k → k ≤ 4_096 → Made (bid_of (present v) c k)) → holding v c + 1 ≤ 4_096 → MayTake m v c p → p ≢ c
@@ -111,19 +98,6 @@ module _ (m : Meaning) (v w : Broker) (ks ls : ℕ → Option Ranked) (all : Lis
       Lists m w c (ls c) → Lists m w p (ls p) → Listed m w ls
   relisted_two c p same kept l k =
       each_but_two c p (λ d. Lists m w d (ls d)) l k (λ d n o. still_lists m v w d (ks d) (ls d) (same d n o) (kept d n o) (all d))
-
-  -- one client is listed anew
-  pub relisted_put : (c : ℕ) (x : Option Ranked) → ((d : ℕ) → d ≢ c → w.clients d ≡ v.clients d) → ((d : ℕ) → ls d ≡ put ks c x d) → Lists m w c x → Listed m w ls
-  relisted_put c x same now l =
-      relisted c same (λ d n. now d ∙ put_off ks c x d n) (subst (Lists m w c) (sym (now c ∙ put_at ks c x)) l)
-
-  -- two clients are, one after the other
-  pub relisted_put_two : (c p : ℕ) (x y : Option Ranked) (js : ℕ → Option Ranked) → p ≢ c → ((d : ℕ) → d ≢ c → d ≢ p → w.clients d ≡ v.clients d) →
-      ((d : ℕ) → js d ≡ put ks p y d) → ((d : ℕ) → ls d ≡ put js c x d) → Lists m w c x → Lists m w p y → Listed m w ls
-  relisted_put_two c p x y js ne same then now l k =
-      relisted_two c p same (λ d n o. now d ∙ put_off js c x d n ∙ then d ∙ put_off ks p y d o)
-      (subst (Lists m w c) (sym (now c ∙ put_at js c x)) l)
-      (subst (Lists m w p) (sym (now p ∙ put_off js c x p ne ∙ then p ∙ put_at ks p y)) k)
 
 pub same_listed : (m : Meaning) (v w : Broker) (ks : ℕ → Option Ranked) → ((d : ℕ) → w.clients d ≡ v.clients d) → Listed m v ks → Listed m w ks
 same_listed m v w ks same all d = same_lists m v w d (same d) (ks d) (all d)

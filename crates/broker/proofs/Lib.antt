@@ -1,4 +1,3 @@
-mod Heaped
 pub mod Bids
 mod Others
 pub mod Noted

@@ -1,31 +1,30 @@
 -- What is noted of a client in the pool, and what the rules say of it.
-use Rattle.std.proofs.Common.{◌≡◌, ℕ, ◌<◌, ◌≤◌, true, length, Some, Ok, Err, Option, Result, sym, refl, ap, ◌∙◌, subst, inl, inr, arith}
+use Rattle.std.proofs.Common.{◌≡◌, ℕ, ◌<◌, ◌≤◌, eqb, length, Some, Ok, Err, Option, Result, sym, refl, ap, ◌∙◌, subst, inl, inr, arith}
+use Rattle.std.specs.Map.{update}
 use Rattle.rules.specs.declared.refusal.Refusal.{Refusal}
 use Rattle.rules.specs.Refusals.{First, Replies}
-use Rattle.rules.specs.Offers.{Meaning, Valid}
+use Rattle.rules.specs.Offers.{Meaning}
 use Rattle.rules.specs.Rank.{bid_at}
 use Rattle.rules.specs.Laws.{Made}
 use Rattle.laws.specs.ByNumber.{put, by_number}
 use Rattle.laws.specs.Division.{terms, minimum_of, bid_of}
 use Rattle.laws.specs.Broker as rules
-use Rattle.laws.specs.Broker.{present, holding, terms_of, Beyond}
+use Rattle.laws.specs.Broker.{present, holding, maximum_of, terms_of, Beyond}
 use Rattle.laws.specs.Questions.{client_entries}
 use Rattle.laws.proofs.Kept.{none_some}
 use Rattle.laws.proofs.Puts.{put_at, put_off}
 use Rattle.ledger.specs.Ledgers.{stack_of}
 use Rattle.ledger.proofs.Ledgers.{few_frames, holding_few}
 use Rattle.pool.specs.declared.member.Member.{Member}
-use Rattle.pool.specs.Members.{in_ranges}
+use Rattle.pool.specs.Members.{offer_at}
 use Rattle.pool.specs.declared.pool.Pool.{Pool}
 use Rattle.pool.specs.View.{client_of, view}
 use Rattle.pool.proofs.Grants.{holder, noted_numbered}
-use Rattle.pool.proofs.Tables.{noted_true}
+use Rattle.pool.proofs.Ticks.{update_put}
 use Rattle.price.specs.declared.key.Ranked.{Ranked}
 use Rattle.price.specs.Keys.{Keyed, KeyOf}
 use Rattle.broker.specs.declared.payers.Payers.{Payers}
-use Rattle.broker.specs.Bids.{offer_at, listed, Lists}
-use Rattle.broker.specs.View as broker
-use Rattle.broker.specs.View.{Broker, Relisted}
+use Rattle.broker.specs.Bids.{listed, Lists, Relisted}
 
 module _ (b : Pool) (c : ℕ) (x : Member) (e : by_number b.members c ≡ Some x) where
   pub noted_holding : holding (view b) c ≡ length (stack_of b.ledger c)
@@ -34,25 +33,22 @@ module _ (b : Pool) (c : ℕ) (x : Member) (e : by_number b.members c ≡ Some x
   pub noted_least : minimum_of (present (view b)) c ≡ x.minimum
   noted_least = ap (λ (o : Option Member). (terms (terms_of (client_of o (stack_of b.ledger c)))).minimum) e
 
-  pub noted_most : rules.maximum_of (view b) c ≡ x.maximum
+  pub noted_most : maximum_of (view b) c ≡ x.maximum
   noted_most = ap (λ (o : Option Member). (terms (terms_of (client_of o (stack_of b.ledger c)))).maximum) e
 
   pub noted_key : (m : Meaning) (k : ℕ) (r : Ranked) → Keyed m c x.minimum (offer_at x k) r → KeyOf m (bid_of (present (view b)) c k) r
   noted_key m k r h = subst (λ (o : Option Member). KeyOf m (bid_at c (terms (terms_of (client_of o (stack_of b.ledger c)))) k) r) (sym e) h
 
-  -- what may be offered at one count may be offered at every count of frames
-  pub noted_made : (j : ℕ) → Valid (offer_at x j) → (k : ℕ) → 1 ≤ k → k ≤ 4_096 → Made (bid_of (present (view b)) c k)
-  noted_made j v k low high = subst (λ (o : Option Member). Made (bid_at c (terms (terms_of (client_of o (stack_of b.ledger c)))) k)) (sym e) (record {
-    some_shares = v.some_shares;
-    few_shares = v.few_shares;
-    low_class = v.low_class;
-    small_active = v.small_active;
+  -- at every count of frames its bid can be made
+  pub noted_made : (k : ℕ) → 1 ≤ k → k ≤ 4_096 → Made (bid_of (present (view b)) c k)
+  noted_made k low high = subst (λ (o : Option Member). Made (bid_at c (terms (terms_of (client_of o (stack_of b.ledger c)))) k)) (sym e) (record {
+    some_shares = x.some_shares;
+    few_shares = x.few_shares;
+    low_class = x.low_class;
+    small_active = x.small_active;
     some_frame = low;
     few_frames = high;
   })
-
-  pub noted_fits : in_ranges (Some x) ≡ true
-  noted_fits = noted_true b.members b.ranges c x e
 
   pub noted_owner : c < 257
   noted_owner = let n = noted_numbered b.members b.places c x e in omega (arith, n)
@@ -75,12 +71,10 @@ refused_not_beyond b c Q (Ok x) h never far = never x refl
 refused_not_beyond b c Q (Err r) h never far = not_beyond b c r h far
 
 -- a client whose listed bid is replaced by what it bids now, or taken out where it bids nothing, is listed anew
-pub anew : {P : Type 0} (meaning : P → Meaning) (before : Broker P) (c : ℕ) (w : Option Ranked) (q : Payers) → ((d : ℕ) → listed q d ≡ put (listed before.payers) c w d) →
-    Lists (meaning before.price) (broker.view before) c w → Relisted meaning before c (record { price = before.price; pool = before.pool; payers = q })
-anew meaning before c w q now l =
+pub anew : (m : Meaning) (v : rules.Broker) (c : ℕ) (w : Option Ranked) (before after : Payers) → ((d : ℕ) → listed after d ≡ update eqb (listed before) c w d) → Lists m v c w → Relisted m v c before after
+anew m v c w before after now l =
+    let there : (d : ℕ) → listed after d ≡ put (listed before) c w d = λ d. now d ∙ update_put (listed before) c w d in
     record {
-      price = refl;
-      pool = refl;
-      others = λ d ne. now d ∙ put_off (listed before.payers) c w d ne;
-      anew = subst (Lists (meaning before.price) (broker.view before) c) (sym (now c ∙ put_at (listed before.payers) c w)) l;
+      others = λ d ne. there d ∙ put_off (listed before) c w d ne;
+      anew = subst (Lists m v c) (sym (there c ∙ put_at (listed before) c w)) l;
     }

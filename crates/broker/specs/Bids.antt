@@ -1,26 +1,23 @@
 -- The bids of those who hold more than their minimums.
 --
--- offer_at   the offer of a client at a count, of what is noted of it
 -- listed     the bid of a client, if it is in
 -- Lists      what is listed of a client: its bid at its holding where it holds more than its minimum, and nothing else
 -- Listed     so it is for every number
-use Rattle.std.specs.Prelude.{ℕ, Some, None, Option}
-use Rattle.rules.specs.declared.offer.Offer.{Offer}
+-- Relisted   one client was listed anew, and no other
+use Rattle.std.specs.Prelude.{◌≡◌, ℕ, ◌≢◌, Some, None, Option}
+use Rattle.std.specs.Coded.{Π_prop}
+use Rattle.std.proofs.Props.{props}
 use Rattle.rules.specs.Offers.{Meaning}
 use Rattle.laws.specs.Division.{bid_of}
 use Rattle.laws.specs.Broker as rules
-use Rattle.laws.specs.Broker.{active_of, present, holding, Beyond}
-use Rattle.heap.specs.Heaps.{keys}
-use Rattle.pool.specs.declared.member.Member.{Member}
+use Rattle.laws.specs.Broker.{present, holding, Beyond}
+use Rattle.heap.specs.Indexed.{keys_in}
 use Rattle.price.specs.declared.key.Ranked.{Ranked}
 use Rattle.price.specs.Keys.{KeyOf}
 use Rattle.broker.specs.declared.payers.Payers.{Payers}
 
-abbrev pub offer_at : Member → ℕ → Offer
-offer_at x k = record { shares = x.shares; class = x.class; active = active_of x.estimate; count = k }
-
 abbrev pub listed : Payers → ℕ → Option Ranked
-listed p c = keys p.records p.count c
+listed p = keys_in p.bids
 
 abbrev pub Lists : Meaning → rules.Broker → ℕ → Option Ranked → Type 0
 Lists m v c None = Beyond v c → ⊥
@@ -28,3 +25,15 @@ Lists m v c (Some k) = Beyond v c × KeyOf m (bid_of (present v) c (holding v c)
 
 abbrev pub Listed : Meaning → rules.Broker → (ℕ → Option Ranked) → Type 0
 Listed m v ks = (c : ℕ) → Lists m v c (ks c)
+
+pub record Relisted (m : Meaning) (v : rules.Broker) (c : ℕ) (before after : Payers) : Type 0 where
+  pub others : (d : ℕ) → d ≢ c → listed after d ≡ listed before d
+  pub anew : Lists m v c (listed after c)
+
+-- What is listed is so in one way at most, so that a broker can keep it.
+Lists-prop : (m : Meaning) (v : rules.Broker) (c : ℕ) (o : Option Ranked) → IsProp (Lists m v c o)
+Lists-prop m v c None = hlevel props
+Lists-prop m v c (Some k) = hlevel props
+
+pub Listed-prop : (m : Meaning) (v : rules.Broker) (ks : ℕ → Option Ranked) → IsProp (Listed m v ks)
+Listed-prop m v ks = Π_prop (λ c. Lists-prop m v c (ks c))

@@ -1,25 +1,82 @@
 //! Those who hold more than their minimums, with their bids, the lowest first.
-ghost use Rattle.std.specs.Prelude.{◌≡◌, length};
-ghost use Rattle.heap.specs.Heaps.{Heap};
-ghost use Rattle.price.specs.Keys.{leads};
+ghost use Rattle.std.specs.Prelude.{◌≡◌, ℕ, ◌≤◌, None, MatchOption};
+ghost use Rattle.heap.specs.Heaps.{Least};
+ghost use Rattle.price.specs.Keys.{Keyed, leads};
+ghost use Rattle.pool.specs.Members.{offer_at};
+ghost use Rattle.pool.specs.View.{view};
+ghost use Rattle.broker.specs.Bids.{listed, Relisted};
 
-use heap::Record;
-use price::Ranked;
+use heap::IndexedHeap;
+use pool::{Member, Pool};
+use price::{Price, Ranked, ValidOffer};
+use rules::Quote;
 
-mod bids;
-
-/// A heap of bids by client number, in fixed memory.
+/// A list of bids by client number, in fixed memory.
 #[derive(Drop)]
 pub(crate) struct Payers {
-    records: [Record<Ranked>; 257],
-    count: usize,
-    ghost places: { length records ≡ 257 },
-    ghost heaped: { Heap leads records count },
+    bids: IndexedHeap<Ranked, 257>,
 }
 
 /// One of them, with its bid.
 #[derive(Clone, Copy, Drop)]
 pub(crate) struct Payer {
-    pub(crate) client: usize,
+    pub(crate) client: u32,
     pub(crate) bid: Ranked,
+}
+
+// The bid of a client at a count of frames.
+pub(crate) fn bid<P: Price>(price: &P, client: u32, member: Member, count: u32) -> Ranked
+    requires { (1 ≤ count) × (count ≤ 4_096) }
+    ensures { Keyed (P.Price.meaning price.now) client member.minimum (offer_at member count) result }
+{
+    let offer = ValidOffer::known(member.offer(count));
+    Ranked::new(price, client, member.minimum, offer)
+}
+
+impl Payers {
+    // Nobody yet.
+    pub(crate) fn new() -> Payers
+        ensures { (c : ℕ) → listed result c ≡ None }
+    {
+        let unused = Ranked {
+            client: 0,
+            minimum: 0,
+            count: 0,
+            quote: Quote {
+                class: 0,
+                top: 0,
+                bottom: 1,
+            },
+        };
+        Payers {
+            bids: IndexedHeap::new(unused),
+        }
+    }
+
+    // Lists a client of a pool anew: with its bid at its holding, where it holds more than its minimum, and else not at
+    // all.
+    pub(crate) fn relist<P: Price>(&mut self, price: &P, pool: &Pool, client: u32)
+        ensures { Relisted (P.Price.meaning price.now) (view pool.now) client self.old self.new }
+    {
+        let holding = pool.height(client);
+        if let Ok(member) = pool.member(client)
+            && member.is_beyond(holding)
+        {
+            let bid = bid(price, client, member, holding);
+            self.bids.put(client as usize, bid);
+        } else {
+            self.bids.take(client as usize);
+        }
+    }
+
+    // The client with the lowest bid, if anybody has one.
+    pub(crate) fn lowest(&self) -> Option<Payer>
+        ensures { MatchOption result ((c : ℕ) → listed self.now c ≡ None) (λ p. Least leads (listed self.now) p.client p.bid) }
+    {
+        let (client, bid) = self.bids.root()?;
+        Some(Payer {
+            client: client as u32,
+            bid: *bid,
+        })
+    }
 }

@@ -8,6 +8,7 @@
 #![tactic(auto)]
 
 mod calls;
+mod indexed;
 mod order;
 mod reads;
 mod records;
@@ -15,5 +16,6 @@ mod sifts;
 mod updates;
 
 pub use calls::{contains, key, put, root, take};
+pub use indexed::IndexedHeap;
 pub use order::Order;
 pub use records::Record;

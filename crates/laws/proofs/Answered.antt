@@ -1,12 +1,11 @@
 -- Every call on a broker that a history leads to is answered: refused by the first entry that it meets, else accepted.
-use Rattle.std.proofs.Common.{◌≡◌, ℕ, ◌+◌, ◌<◌, ◌≤◌, true, ◌⊎◌, List, [], ◌∷◌, length, Some, None, Option, refl, ap, ◌∙◌, subst, inl, inr, arith}
+use Rattle.std.proofs.Common.{◌≡◌, ℕ, ◌+◌, ◌<◌, ◌≤◌, true, ◌⊎◌, List, [], ◌∷◌, length, Some, None, Option, refl, ap, ◌∙◌, subst, inl, inr, arith, Err, Result}
 use native.Mathlib.Decide.{ℕ_discrete, dec_le, dec_lt}
 use Rattle.std.proofs.lemmas.Bool.{cases_Bool, both_ways}
 use Rattle.rules.specs.declared.call.SlipNumbers.{SlipNumbers}
 use Rattle.rules.specs.declared.call.Call.{Call}
 use Rattle.rules.specs.declared.call.Call.TheVariants.{Start, Admit, Ask, Deliver, HandBack, Leave, SetEstimate, SetClock}
 use Rattle.rules.specs.declared.call.Answer.{Answer}
-use Rattle.rules.specs.declared.call.Answer.TheVariants.{Refused}
 use Rattle.rules.specs.declared.refusal.Refusal.{Refusal}
 use Rattle.rules.specs.Offers.{Meaning, Lawful}
 use Rattle.rules.specs.Rank.{above}
@@ -110,17 +109,17 @@ module _ (m : Meaning) (l : Lawful m) (b : Broker) (k : Kept b) where
 
   decided : (x : Call) → Decided (entries m b x)
   decided (Start u F) = (dec_or (dec_outside 1 4_096 F) (dec_outside 1 999 u), (dec_le 1 b.frames, tt))
-  decided (Admit c s q w h) =
-      (dec_outside 1 256 c, (dec_outside 1 1_000_000 s, (dec_lt 9 q, (dec_or (ℕ_discrete h 0) (dec_lt h w), (closed, (dec_not (absent c), (dec_lt b.frames h, (dec_lt b.frames (total (minimum_of (present b)) + w), tt))))))))
+  decided (Admit a) =
+      (dec_outside 1 256 a.client, (dec_outside 1 1_000_000 a.shares, (dec_lt 9 a.class, (dec_or (ℕ_discrete a.maximum 0) (dec_lt a.maximum a.minimum), (closed, (dec_not (absent a.client), (dec_lt b.frames a.maximum, (dec_lt b.frames (total (minimum_of (present b)) + a.minimum), tt))))))))
   decided (Ask c) = (dec_outside 1 256 c, (closed, (absent c, (dec_le (maximum_of b c) (holding b c), (dec_outbid c, tt)))))
   decided (Deliver s) = (dec_not (dec_this b.passage s), tt)
-  decided (HandBack c) = (dec_outside 1 256 c, (closed, (absent c, (ℕ_discrete (holding b c) 0, tt))))
+  decided (HandBack c) = (dec_outside 1 256 c, (closed, (absent c, (ℕ_discrete (holding b c) _, tt))))
   decided (Leave c) = (dec_outside 1 256 c, (closed, (absent c, tt)))
-  decided (SetEstimate c a e) = (dec_outside 1 256 c, (closed, (absent c, (dec_lt b.frames a, (dec_le e b.tick, tt)))))
+  decided (SetEstimate c e) = (dec_outside 1 256 c, (closed, (absent c, (dec_lt b.frames e.active, (dec_le e.end b.tick, tt)))))
   decided (SetClock t) = (closed, (dec_lt t b.tick, tt))
 
   abbrev Answers : Call → Type 0
-  Answers x = (a : Answer) × (d : Broker) × Step m b x a d
+  Answers x = (a : Result Answer Refusal) × (d : Broker) × Step m b x a d
 
   asks : (c : ℕ) → IsClear m b (Ask c) → Answers (Ask c)
   asks c clear = go b.free refl (taking c)
@@ -136,7 +135,7 @@ module _ (m : Meaning) (l : Lawful m) (b : Broker) (k : Kept b) where
 
   accepted : (x : Call) → IsClear m b x → Answers x
   accepted (Start u F) clear = (_, _, Calls.started clear)
-  accepted (Admit c s q w h) clear = (_, _, Calls.admitted clear)
+  accepted (Admit a) clear = (_, _, Calls.admitted clear)
   accepted (Ask c) clear = asks c clear
   accepted (Deliver s) clear = (_, _, Calls.delivered clear)
   accepted (HandBack c) clear =
@@ -144,11 +143,11 @@ module _ (m : Meaning) (l : Lawful m) (b : Broker) (k : Kept b) where
       let (f, gs, q) = top_of x.stack (λ n. clear.1.1.1.0 (ap held_of i ∙ n)) in
       (_, _, Calls.handed_back clear i q)
   accepted (Leave c) clear = let (x, i) = some_there (b.clients c) clear.1.1.0 in (_, _, Calls.left clear i)
-  accepted (SetEstimate c a e) clear = let (x, i) = some_there (b.clients c) clear.1.1.0 in (_, _, Calls.estimated clear i)
+  accepted (SetEstimate c e) clear = let (x, i) = some_there (b.clients c) clear.1.1.0 in (_, _, Calls.estimated clear i)
   accepted (SetClock t) clear = (_, _, Calls.clocked clear)
 
-  pub answers : (x : Call) → (a : Answer) × (d : Broker) × Step m b x a d
-  answers x = elim (settle (entries m b x) (decided x)) [ inl (r, f) ↦ (Refused r, b, Calls.refused f) | inr clear ↦ accepted x clear ]
+  pub answers : (x : Call) → (a : Result Answer Refusal) × (d : Broker) × Step m b x a d
+  answers x = elim (settle (entries m b x) (decided x)) [ inl (r, f) ↦ (Err r, b, Calls.refused f) | inr clear ↦ accepted x clear ]
 
 -- the lowest payer, or none
 module _ (m : Meaning) where

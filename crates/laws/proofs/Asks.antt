@@ -1,8 +1,9 @@
 -- In a stretch that accepts nothing but asks and deliveries, the accepted asks are bounded.
-use Rattle.std.proofs.Common.{◌≡◌, ℕ, ◌+◌, ◌<◌, ◌≤◌, true, false, ◌⊎◌, List, ◌∷◌, ◌++◌, length, Some, sym, refl, ap, ◌∙◌, subst, arith}
+use Rattle.std.proofs.Common.{◌≡◌, ℕ, ◌+◌, ◌<◌, ◌≤◌, true, false, ◌⊎◌, List, ◌∷◌, ◌++◌, length, Some, sym, refl, ap, ◌∙◌, subst, arith, Result}
 use Rattle.rules.specs.declared.call.Call.{Call}
 use Rattle.rules.specs.declared.call.Call.TheVariants.{Ask}
 use Rattle.rules.specs.declared.call.Answer.{Answer}
+use Rattle.rules.specs.declared.refusal.Refusal.{Refusal}
 use Rattle.rules.specs.Offers.{Meaning, Lawful}
 use Rattle.rules.specs.Rank.{above}
 use Rattle.laws.specs.ByNumber.{total, put}
@@ -47,7 +48,7 @@ module _ (m : Meaning) (l : Lawful m) (b : Broker) (kb : Kept b) where
       let (beyond, lowest, wins) = subst (λ (cs : Clients). Takes m cs (holding d) c p) e (t.0.beyond, t.0.lowest, t.1) in
       (record { beyond = beyond; lowest = lowest }, wins)
 
-  climb_step : (k : List Event) (d : Broker) (x : Call) (a : Answer) (e : Broker) → (IsAccepted a → AskOrDelivery x) → Climb k d → Step m d x a e → Climb (event x a e ∷ k) e
+  climb_step : (k : List Event) (d : Broker) (x : Call) (a : Result Answer Refusal) (e : Broker) → (IsAccepted a → AskOrDelivery x) → Climb k d → Step m d x a e → Climb (event x a e ∷ k) e
   unfolding grants
   climb_step k d x a e p w (Calls.refused r) = record { same = w.same; peak = w.peak; peaks = w.peaks; sum = omega (arith, w.sum) }
   climb_step k d x a e p w (Calls.started clear) = absurd (p tt)

@@ -10,7 +10,7 @@ use Rattle.rules.specs.Refusals.{Outside}
 use Rattle.laws.specs.ByNumber.{total, Numbered, put}
 use Rattle.laws.specs.Division.{Clients, Admissible, terms, minimum_of}
 use Rattle.laws.specs.Broker.{Broker, Client, new_broker, present, active_of, terms_of, stack_of}
-use Rattle.laws.specs.Calls.{IsClear, numbers, lasting, lasts, with_stack, with_estimate}
+use Rattle.laws.specs.Calls.{Admission, IsClear, newcomer, numbers, lasting, lasts, with_stack, with_estimate}
 use Rattle.laws.proofs.Sums.{upto_same, upto_zero}
 use Rattle.laws.proofs.Puts.{put_off, put_each, put_sum}
 
@@ -112,46 +112,43 @@ started_kept m b u F k clear =
       each_fits = λ c. let f = k.each_fits c in record { fits = f.fits; order = f.order; within = omega arith; sound = f.sound };
     }
 
-pub admitted_kept : (m : Meaning) (b : Broker) (c s k l h : ℕ) → Kept b → IsClear m b (Admit c s k l h) →
-    Pool b.frames (length b.free) (put b.clients c (Some (record { shares = s; class = k; minimum = l; maximum = h; estimate = None; stack = [] })))
-admitted_kept m b c s k l h p clear = go (b.clients c) refl
+pub admitted_kept : (m : Meaning) (b : Broker) (a : Admission) → Kept b → IsClear m b (Admit a) →
+    Pool b.frames (length b.free) (put b.clients a.client (Some (newcomer a)))
+admitted_kept m b a p clear = go (b.clients a.client) refl
   where
-    y : Client
-    y = record { shares = s; class = k; minimum = l; maximum = h; estimate = None; stack = [] }
+    i : Numbered a.client
+    i = inside 1 256 a.client clear.0
 
-    i : Numbered c
-    i = inside 1 256 c clear.0
+    j : (1 ≤ a.shares) × (a.shares ≤ 1_000_000)
+    j = inside 1 1_000_000 a.shares clear.1.0
 
-    j : (1 ≤ s) × (s ≤ 1_000_000)
-    j = inside 1 1_000_000 s clear.1.0
-
-    class_low : 9 < k → ⊥
+    class_low : 9 < a.class → ⊥
     class_low g = clear.1.1.0 g
 
-    order : h < l → ⊥
+    order : a.maximum < a.minimum → ⊥
     order g = clear.1.1.1.0 (inr g)
 
-    above : b.frames < h → ⊥
+    above : b.frames < a.maximum → ⊥
     above g = clear.1.1.1.1.1.1.0 g
 
-    rooms : b.frames < total (minimum_of (present b)) + l → ⊥
+    rooms : b.frames < total (minimum_of (present b)) + a.minimum → ⊥
     rooms g = clear.1.1.1.1.1.1.1.0 g
 
-    good : Admissible c (terms (terms_of (Some y)))
-    good = record { numbered = i; some_shares = j.0; few_shares = j.1; low_class = omega (arith, class_low); small_active = λ a e. absurd (none_some refl e) }
+    good : Admissible a.client (terms (terms_of (Some (newcomer a))))
+    good = record { numbered = i; some_shares = j.0; few_shares = j.1; low_class = omega (arith, class_low); small_active = λ n e. absurd (none_some refl e) }
 
-    fit : Fit b.frames c (Some y)
+    fit : Fit b.frames a.client (Some (newcomer a))
     fit =
         record {
           fits = omega arith;
           order = omega (arith, order);
           within = omega (arith, above);
-          sound = λ t e. let q : terms (terms_of (Some y)) ≡ t = cc in subst (Admissible c) q good;
+          sound = λ t e. let q : terms (terms_of (Some (newcomer a))) ≡ t = cc in subst (Admissible a.client) q good;
         }
 
-    go : (o : Option Client) → b.clients c ≡ o → Pool b.frames (length b.free) (put b.clients c (Some y))
+    go : (o : Option Client) → b.clients a.client ≡ o → Pool b.frames (length b.free) (put b.clients a.client (Some (newcomer a)))
     go (Some z) e = absurd (clear.1.1.1.1.1.0 (λ n. none_some n e))
-    go None e = pool_put b.frames (length b.free) (length b.free) b.clients c (Some y) p i fit (omega (arith, ap held_of e)) (omega (arith, rooms))
+    go None e = pool_put b.frames (length b.free) (length b.free) b.clients a.client (Some (newcomer a)) p i fit (omega (arith, ap held_of e)) (omega (arith, rooms))
 
 module _ (F : ℕ) (cs : ℕ → Option Client) (c : ℕ) (x : Client) (e : cs c ≡ Some x) where
   -- the client gets another stack

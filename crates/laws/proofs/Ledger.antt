@@ -1,14 +1,15 @@
 -- Every frame lies in exactly one stack, once.
-use Rattle.std.proofs.Common.{◌≡◌, ℕ, zero, suc, ◌+◌, ◌≤◌, cond, eqb, leb, List, [], ◌∷◌, ◌++◌, reverse, length, Some, None, Option, sym, refl, ap, ◌∙◌, subst, arith}
+use Rattle.std.proofs.Common.{◌≡◌, ℕ, zero, suc, ◌+◌, ◌≤◌, cond, eqb, leb, List, [], ◌∷◌, ◌++◌, reverse, length, Some, None, Option, sym, refl, ap, ◌∙◌, subst, arith, Result}
 use mathlib.Core.List.{reverse_aux}
 use Rattle.std.proofs.lemmas.Bool.Decides.{nat_tests}
 use Rattle.rules.specs.declared.call.Call.{Call}
 use Rattle.rules.specs.declared.call.Answer.{Answer}
+use Rattle.rules.specs.declared.refusal.Refusal.{Refusal}
 use Rattle.rules.specs.Offers.{Meaning, Lawful}
 use Rattle.laws.specs.ByNumber.{total, Numbered, put}
 use Rattle.laws.specs.Broker.{Broker, Client, new_broker, holding, stack_of}
 use Rattle.laws.specs.Calls
-use Rattle.laws.specs.Calls.{Step, lasting, numbers, with_stack, with_estimate}
+use Rattle.laws.specs.Calls.{Step, newcomer, lasting, numbers, with_stack, with_estimate}
 use Rattle.laws.specs.Histories.{Event, Run, start, then}
 use Rattle.laws.specs.Laws.{times, FramesLieOnce}
 use Rattle.laws.proofs.Sums.{upto_same, upto_le, upto_zero}
@@ -84,7 +85,7 @@ module _ (m : Meaning) (l : Lawful m) (f : ℕ) (b : Broker) (k : Kept b) (o : l
   there : (c : ℕ) (x : Client) → b.clients c ≡ Some x → Numbered c
   there c x e = numbered b.frames c (b.clients c) x (k.each_fits c) e
 
-  step_once : (x : Call) (a : Answer) (d : Broker) → Step m b x a d → lies f d.free d.clients ≡ once d.frames f
+  step_once : (x : Call) (a : Result Answer Refusal) (d : Broker) → Step m b x a d → lies f d.free d.clients ≡ once d.frames f
   step_once x a d (Calls.refused r) = o
   step_once x a d (Calls.started {u = u} {F = F} clear) =
       let z : 1 ≤ b.frames → ⊥ = clear.1.0 in
@@ -92,9 +93,9 @@ module _ (m : Meaning) (l : Lawful m) (f : ℕ) (b : Broker) (k : Kept b) (o : l
       let n : total (λ c. here f (b.clients c)) ≡ 0 = omega (arith, k.all) in
       let t = times_numbers f 1 F in
       grind (arith, nat_tests)
-  step_once x a d (Calls.admitted {c = c} {s = s} {k = q} {l = w} {h = h} clear) =
-      admit_lies f b c (record { shares = s; class = q; minimum = w; maximum = h; estimate = None; stack = [] }) refl
-      (inside 1 256 c clear.0) (λ y e. clear.1.1.1.1.1.0 (λ n. none_some n e)) ∙ o
+  step_once x a d (Calls.admitted {a = q} clear) =
+      admit_lies f b q.client (newcomer q) refl
+      (inside 1 256 q.client clear.0) (λ y e. clear.1.1.1.1.1.0 (λ n. none_some n e)) ∙ o
   step_once x a d (Calls.granted_free {c = c} {f = g} {fs = gs} {x = y} clear e q) = grant_lies f b.clients b.free c y e (there c y e) g gs q ∙ o
   step_once x a d (Calls.granted_from {c = c} {p = p} {f = g} {fs = gs} {x = y} {y = z} clear e h t i j) =
       let ne = from_other m l b k c p (ask_room m b c clear) t in
@@ -106,8 +107,8 @@ module _ (m : Meaning) (l : Lawful m) (f : ℕ) (b : Broker) (k : Kept b) (o : l
   step_once x a d (Calls.delivered clear) = o
   step_once x a d (Calls.handed_back {c = c} {f = g} {fs = gs} {x = y} clear e q) = back_lies f b.clients b.free c y e (there c y e) g gs q ∙ o
   step_once x a d (Calls.left {c = c} {x = y} clear e) = leave_lies f b.clients b.free c y e (there c y e) ∙ o
-  step_once x a d (Calls.estimated {c = c} {a = v} {e = w} {x = y} clear e) =
-      lies_put f b.free b.free b.clients c (Some (with_estimate y (Some (record { active = v; end = w })))) (there c y e) (omega (arith, ap (here f) e)) ∙ o
+  step_once x a d (Calls.estimated {c = c} {e = v} {x = y} clear e) =
+      lies_put f b.free b.free b.clients c (Some (with_estimate y (Some v))) (there c y e) (omega (arith, ap (here f) e)) ∙ o
   step_once x a d (Calls.clocked {t = t} clear) =
       omega (arith, o, upto_same 256 (λ c. here f (lasting t (b.clients c))) (λ c. here f (b.clients c)) (λ c i. lasting_here f t (b.clients c)))
 

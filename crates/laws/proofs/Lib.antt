@@ -19,3 +19,4 @@ pub mod Worked
 pub mod Reached
 pub mod Table
 pub mod Rising
+pub mod Lines

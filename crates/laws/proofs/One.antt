@@ -1,9 +1,8 @@
 -- A call has one answer, and leaves one broker.
-use Rattle.std.proofs.Common.{◌≡◌, ℕ, ◌⊎◌, List, [], ◌∷◌, sym, refl, ◌∙◌, inl, inr, arith}
+use Rattle.std.proofs.Common.{◌≡◌, ℕ, ◌⊎◌, List, [], ◌∷◌, sym, refl, ◌∙◌, inl, inr, arith, Err, Result}
 use Rattle.std.proofs.lemmas.Bool.{cases_eq, both_ways}
 use Rattle.rules.specs.declared.call.Call.{Call}
 use Rattle.rules.specs.declared.call.Answer.{Answer}
-use Rattle.rules.specs.declared.call.Answer.TheVariants.{Refused}
 use Rattle.rules.specs.declared.refusal.Refusal.{Refusal}
 use Rattle.rules.specs.Offers.{Meaning}
 use Rattle.rules.specs.Refusals.{Entry, First, Clear}
@@ -37,14 +36,14 @@ one_payer m b p q u v =
       ])
     ]
 
-abbrev Same : Answer → Answer → Broker → Broker → Type 0
+abbrev Same : Result Answer Refusal → Result Answer Refusal → Broker → Broker → Type 0
 Same a c d e = (a ≡ c) × (d ≡ e)
 
 module _ (m : Meaning) (b : Broker) where
   refused_clear : (x : Call) (r : Refusal) → RefusedBy m b x r → IsClear m b x → ⊥
   refused_clear x r q clear = first_or_clear (entries m b x) r q clear
 
-  accepted_one : (x : Call) (a c : Answer) (d e : Broker) → IsClear m b x → Step m b x a d → Step m b x c e → Same a c d e
+  accepted_one : (x : Call) (a c : Result Answer Refusal) (d e : Broker) → IsClear m b x → Step m b x a d → Step m b x c e → Same a c d e
   accepted_one x a c d e clear (Calls.refused {r = r} q) t = absurd (refused_clear x r q clear)
   accepted_one x a c d e clear (Calls.started s) (Calls.refused {r = r} q) = absurd (refused_clear x r q clear)
   accepted_one x a c d e clear (Calls.started s) (Calls.started t) = (refl, refl)
@@ -69,10 +68,10 @@ module _ (m : Meaning) (b : Broker) where
   accepted_one x a c d e clear (Calls.clocked s) (Calls.clocked t) = (refl, refl)
 
   -- a step is a refusal that changes nothing, or the call is clear
-  abbrev pub Kind : Call → Answer → Broker → Type 0
-  Kind x a d = ((r : Refusal) × RefusedBy m b x r × (a ≡ Refused r) × (d ≡ b)) ⊎ IsClear m b x
+  abbrev pub Kind : Call → Result Answer Refusal → Broker → Type 0
+  Kind x a d = ((r : Refusal) × RefusedBy m b x r × (a ≡ Err r) × (d ≡ b)) ⊎ IsClear m b x
 
-  pub kind : (x : Call) (a : Answer) (d : Broker) → Step m b x a d → Kind x a d
+  pub kind : (x : Call) (a : Result Answer Refusal) (d : Broker) → Step m b x a d → Kind x a d
   kind x a d (Calls.refused {r = r} q) = inl (r, q, refl, refl)
   kind x a d (Calls.started s) = inr s
   kind x a d (Calls.admitted s) = inr s
@@ -84,7 +83,7 @@ module _ (m : Meaning) (b : Broker) where
   kind x a d (Calls.estimated s g) = inr s
   kind x a d (Calls.clocked s) = inr s
 
-  both : (x : Call) (a c : Answer) (d e : Broker) → Step m b x a d → Step m b x c e → Kind x a d → Kind x c e → Same a c d e
+  both : (x : Call) (a c : Result Answer Refusal) (d e : Broker) → Step m b x a d → Step m b x c e → Kind x a d → Kind x c e → Same a c d e
   both x a c d e s t (inl (r, u, f, g)) (inl (q, v, h, i)) = let o = one_first (entries m b x) r q u v in (cc, cc)
   both x a c d e s t (inr clear) v = accepted_one x a c d e clear s t
   both x a c d e s t (inl (r, u, f, g)) (inr clear) = accepted_one x a c d e clear s t

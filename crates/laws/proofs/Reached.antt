@@ -1,11 +1,11 @@
 -- Rest is reached: accepted asks end, and once each client has asked again the broker is at rest.
-use Rattle.std.proofs.Common.{◌≡◌, ℕ, zero, suc, ◌+◌, ◌<◌, ◌≤◌, ◌⊎◌, List, [], ◌∷◌, ◌++◌, Some, None, Option, sym, refl, ap, ◌∙◌, subst, inl, inr, append_assoc, arith}
+use Rattle.std.proofs.Common.{◌≡◌, ℕ, zero, suc, ◌+◌, ◌<◌, ◌≤◌, ◌⊎◌, List, [], ◌∷◌, ◌++◌, Some, None, Option, sym, refl, ap, ◌∙◌, subst, inl, inr, append_assoc, arith, Ok, Err, Result}
 use Rattle.std.proofs.lemmas.Bool.{cases_eq}
 use Rattle.rules.specs.declared.call.SlipNumbers.{SlipNumbers}
 use Rattle.rules.specs.declared.call.Call.{Call}
 use Rattle.rules.specs.declared.call.Call.TheVariants.{Ask, Deliver}
 use Rattle.rules.specs.declared.call.Answer.{Answer}
-use Rattle.rules.specs.declared.call.Answer.TheVariants.{Done, Refused}
+use Rattle.rules.specs.declared.call.Answer.TheVariants.{Done}
 use Rattle.rules.specs.declared.refusal.Refusal.{Refusal}
 use Rattle.rules.specs.declared.refusal.Refusal.TheVariants.{AtMaximum, Outbid}
 use Rattle.rules.specs.Offers.{Meaning, Lawful}
@@ -38,10 +38,10 @@ module _ (m : Meaning) (b : Broker) (c : ℕ) (i : Numbered c) (x : Client) (the
   which r (inr (n, inr (o, inr (p, inr (q, inl (out, e)))))) = inr e
   which r (inr (n, inr (o, inr (p, inr (q, inr (s, none)))))) = absurd none
 
-  turns : (y : Call) (a : Answer) (d : Broker) → y ≡ Ask c → IsRefused a → Step m b y a d → TurnsAway c (event y a d)
+  turns : (y : Call) (a : Result Answer Refusal) (d : Broker) → y ≡ Ask c → IsRefused a → Step m b y a d → TurnsAway c (event y a d)
   turns y a d e n s =
       let (r, q, f, same) = refused_step m b y a d n s in
-      (e, elim (which r (subst (λ z. RefusedBy m b z r) e q)) [ inl g ↦ inl (f ∙ ap Refused g) | inr g ↦ inr (f ∙ ap Refused g) ])
+      (e, elim (which r (subst (λ z. RefusedBy m b z r) e q)) [ inl g ↦ inl (f ∙ ap Err g) | inr g ↦ inr (f ∙ ap Err g) ])
 
 then_turned : (m : Meaning) → Lawful m → (c : ℕ) (x : Client) (asked earlier : List Event) (b : Broker) → Run m new_broker (asked ++ earlier) b → b.passage ≡ None →
     Each (λ e. IsRefused e.answer) asked → Asked c asked → b.clients c ≡ Some x → TurnedAway c (asked ++ earlier)
@@ -71,7 +71,7 @@ refused_only [] n = tt
 refused_only (e ∷ h) n = (λ a. absurd (n.0 a), refused_only h n.1)
 
 -- an ask that meets no refusal is granted
-clear_grants : (m : Meaning) (b : Broker) (c : ℕ) (a : Answer) (d : Broker) → IsClear m b (Ask c) → Step m b (Ask c) a d → grant a ≡ 1
+clear_grants : (m : Meaning) (b : Broker) (c : ℕ) (a : Result Answer Refusal) (d : Broker) → IsClear m b (Ask c) → Step m b (Ask c) a d → grant a ≡ 1
 clear_grants m b c a d clear (Calls.refused {r = r} q) = absurd (first_or_clear (entries m b (Ask c)) r q clear)
 clear_grants m b c a d clear (Calls.granted_free clear-too e g) = refl
 clear_grants m b c a d clear (Calls.granted_from clear-too e g t i h) = refl
@@ -97,11 +97,11 @@ module _ (m : Meaning) (l : Lawful m) where
   sweep b k zero = inl (record { asked = []; run = start; refused = tt; all = λ c i. absurd (omega arith) })
   sweep b k (suc n) = elim (sweep b k n) [ inl s ↦ next s (answers m l b k (Ask (suc n))) | inr w ↦ inr w ]
     where
-      next : Swept b n → (a : Answer) × (d : Broker) × Step m b (Ask (suc n)) a d → Swept b (suc n) ⊎ Won b
+      next : Swept b n → (a : Result Answer Refusal) × (d : Broker) × Step m b (Ask (suc n)) a d → Swept b (suc n) ⊎ Won b
       next s (a, d, step) =
           elim (kind m b (Ask (suc n)) a d step) [
             | inl (r, q, f, g) ↦ inl (record {
-              asked = event (Ask (suc n)) (Refused r) b ∷ s.asked;
+              asked = event (Ask (suc n)) (Err r) b ∷ s.asked;
               run = then s.run (Calls.refused q);
               refused = (λ a. a, s.refused);
               all = λ c i. elim (cases_eq c (suc n)) [ inl e ↦ inl (ap Ask (sym e)) | inr ne ↦ inr (s.all c (omega arith)) ];
@@ -120,7 +120,7 @@ module _ (m : Meaning) (l : Lawful m) where
   closing b = go b.passage refl
     where
       go : (o : Option SlipNumbers) → b.passage ≡ o → (h : List Event) × (d : Broker) × Run m b h d × AcceptsOnlyAsks h × (d.passage ≡ None)
-      go (Some s) e = (event (Deliver s) Done _ ∷ [], _, then start (Calls.delivered (λ n. n e, tt)), (λ _. tt, tt), refl)
+      go (Some s) e = (event (Deliver s) (Ok Done) _ ∷ [], _, then start (Calls.delivered (λ n. n e, tt)), (λ _. tt, tt), refl)
       go None e = ([], b, start, tt, e)
 
   module _ (h : List Event) (b : Broker) (r : Run m new_broker h b) where

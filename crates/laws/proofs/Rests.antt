@@ -1,10 +1,10 @@
 -- At rest the holdings are the settled division, and the only one.
-use Rattle.std.proofs.Common.{◌≡◌, ℕ, ◌≤◌, ◌⊎◌, List, ◌++◌, length, Some, None, Option, refl, ap, subst, inl, inr, arith}
+use Rattle.std.proofs.Common.{◌≡◌, ℕ, ◌≤◌, ◌⊎◌, List, ◌++◌, length, Some, None, Option, refl, ap, subst, inl, inr, arith, Err, Result}
 use Rattle.rules.specs.declared.call.Call.{Call}
 use Rattle.rules.specs.declared.call.Call.TheVariants.{Ask}
 use Rattle.rules.specs.declared.call.Answer.{Answer}
-use Rattle.rules.specs.declared.call.Answer.TheVariants.{Refused}
 use Rattle.rules.specs.declared.refusal.Refusal.TheVariants.{AtMaximum, Outbid}
+use Rattle.rules.specs.declared.refusal.Refusal.{Refusal}
 use Rattle.rules.specs.Offers.{Meaning, Lawful}
 use Rattle.laws.specs.ByNumber.{Numbered}
 use Rattle.laws.specs.Division.{Settled, capped, minimum_of}
@@ -29,16 +29,16 @@ outbid_met : (m : Meaning) (b : Broker) (c : ℕ) → RefusedBy m b (Ask c) Outb
 outbid_met m b c f = (λ none. grind arith, grind arith)
 
 -- an ask that turns a client away changes nothing; the client is admitted, and can get nothing
-pub turned : (m : Meaning) (b : Broker) (c : ℕ) (x : Call) (a : Answer) (d : Broker) → TurnsAway c (event x a d) → Step m b x a d →
+pub turned : (m : Meaning) (b : Broker) (c : ℕ) (x : Call) (a : Result Answer Refusal) (d : Broker) → TurnsAway c (event x a d) → Step m b x a d →
     (d ≡ b) × (Absent b c → ⊥) × GetsNothing m b c
 turned m b c x a d (e, inl f) s =
-    let q = subst (λ y. Step m b y (Refused AtMaximum) d) e (subst (λ z. Step m b x z d) f s) in
+    let q = subst (λ y. Step m b y (Err AtMaximum) d) e (subst (λ z. Step m b x z d) f s) in
     let (there, full) = maximum_met m b c (refused_by m b (Ask c) AtMaximum d q) in
-    (unchanged m b (Ask c) (Refused AtMaximum) d (λ n. n) q, there, inl full)
+    (unchanged m b (Ask c) (Err AtMaximum) d (λ n. n) q, there, inl full)
 turned m b c x a d (e, inr f) s =
-    let q = subst (λ y. Step m b y (Refused Outbid) d) e (subst (λ z. Step m b x z d) f s) in
+    let q = subst (λ y. Step m b y (Err Outbid) d) e (subst (λ z. Step m b x z d) f s) in
     let (there, out) = outbid_met m b c (refused_by m b (Ask c) Outbid d q) in
-    (unchanged m b (Ask c) (Refused Outbid) d (λ n. n) q, there, inr out)
+    (unchanged m b (Ask c) (Err Outbid) d (λ n. n) q, there, inr out)
 
 -- who was turned away, with nothing accepted since, can get nothing now
 away : (m : Meaning) (b : Broker) (c : ℕ) (h : List Event) (d : Broker) → Run m b h d → TurnedAway c h → GetsNothing m d c

@@ -10,12 +10,12 @@ use Rattle.laws.specs.Laws.{ListsRise}
 
 calls_rise : (m : Meaning) (b : Broker) (x : Call) → Rising (entries m b x)
 calls_rise m b (Start u F) = omega arith
-calls_rise m b (Admit c s k l h) = omega arith
+calls_rise m b (Admit a) = omega arith
 calls_rise m b (Ask c) = omega arith
 calls_rise m b (Deliver s) = omega arith
 calls_rise m b (HandBack c) = omega arith
 calls_rise m b (Leave c) = omega arith
-calls_rise m b (SetEstimate c a e) = omega arith
+calls_rise m b (SetEstimate c e) = omega arith
 calls_rise m b (SetClock t) = omega arith
 
 pub lists_rise : ListsRise

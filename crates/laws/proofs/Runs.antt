@@ -1,9 +1,8 @@
 -- Runs: what holds at each of their brokers, and how they are cut and joined.
-use Rattle.std.proofs.Common.{◌≡◌, ℕ, ◌^◌, ◌<◌, ◌≤◌, ◌≢◌, List, [], ◌∷◌, ◌++◌, length, Some, sym, refl, subst, arith}
+use Rattle.std.proofs.Common.{◌≡◌, ℕ, ◌^◌, ◌<◌, ◌≤◌, ◌≢◌, List, [], ◌∷◌, ◌++◌, length, Some, sym, refl, subst, arith, Err, Result}
 use Rattle.rules.specs.declared.call.Call.{Call}
 use Rattle.rules.specs.declared.call.Call.TheVariants.{Ask}
 use Rattle.rules.specs.declared.call.Answer.{Answer}
-use Rattle.rules.specs.declared.call.Answer.TheVariants.{Refused}
 use Rattle.rules.specs.declared.refusal.Refusal.{Refusal}
 use Rattle.rules.specs.Offers.{Meaning, Lawful}
 use Rattle.laws.specs.Division.{capped}
@@ -36,10 +35,10 @@ module _ (m : Meaning) (l : Lawful m) (b : Broker) (k : Kept b) where
   pub from_other : (c p : ℕ) → holding b c < maximum_of b c → MayTake m b c p → p ≢ c
   from_other c p room t = other contest_of (holding b) held_fits c p (omega (arith, cap_is c)) (yields c p t)
 
-step_kept : (m : Meaning) → Lawful m → (b : Broker) (x : Call) (a : Answer) (d : Broker) → Kept b → Step m b x a d → Kept d
+step_kept : (m : Meaning) → Lawful m → (b : Broker) (x : Call) (a : Result Answer Refusal) (d : Broker) → Kept b → Step m b x a d → Kept d
 step_kept m l b x a d k (Calls.refused r) = k
 step_kept m l b x a d k (Calls.started {u = u} {F = F} clear) = started_kept m b u F k clear
-step_kept m l b x a d k (Calls.admitted {c = c} {s = s} {k = q} {l = w} {h = h} clear) = admitted_kept m b c s q w h k clear
+step_kept m l b x a d k (Calls.admitted {a = y} clear) = admitted_kept m b y k clear
 step_kept m l b x a d k (Calls.granted_free {c = c} {f = f} {fs = fs} {x = y} clear e g) =
     free_kept b.frames b.clients c y e b.free fs f k g (ask_room m b c clear)
 step_kept m l b x a d k (Calls.granted_from {c = c} {p = p} {f = f} {fs = fs} {x = y} {y = z} clear e g t i h) =
@@ -47,14 +46,14 @@ step_kept m l b x a d k (Calls.granted_from {c = c} {p = p} {f = f} {fs = fs} {x
 step_kept m l b x a d k (Calls.delivered clear) = k
 step_kept m l b x a d k (Calls.handed_back {c = c} {f = f} {fs = fs} {x = y} clear e g) = back_kept b.frames b.clients c y e b.free fs f k g
 step_kept m l b x a d k (Calls.left {c = c} {x = y} clear e) = left_kept b.frames b.clients c y e b.free k
-step_kept m l b x a d k (Calls.estimated {c = c} {a = v} {e = w} {x = y} clear e) =
-    estimated_kept b.frames b.clients c y e (length b.free) (Some (record { active = v; end = w })) few k
+step_kept m l b x a d k (Calls.estimated {c = c} {e = v} {x = y} clear e) =
+    estimated_kept b.frames b.clients c y e (length b.free) (Some v) few k
   where
-    above : b.frames < v → ⊥
+    above : b.frames < v.active → ⊥
     above = clear.1.1.1.0
 
-    few : (n : ℕ) → active_of (Some (record { active = v; end = w })) ≡ Some n → n < 2 ^ 32
-    few n q = let same : v ≡ n = cc in omega (arith, above, k.small)
+    few : (n : ℕ) → active_of (Some v) ≡ Some n → n < 2 ^ 32
+    few n q = let same : v.active ≡ n = cc in omega (arith, above, k.small)
 step_kept m l b x a d k (Calls.clocked {t = t} clear) = clocked_kept b.frames b.clients (length b.free) t k
 
 pub run_kept : (m : Meaning) → Lawful m → (b : Broker) (h : List Event) (d : Broker) → Kept b → Run m b h d → Kept d
@@ -65,8 +64,8 @@ pub history_kept : (m : Meaning) → Lawful m → (h : List Event) (b : Broker) 
 history_kept m l h b r = run_kept m l new_broker h b new_kept r
 
 -- a refused call meets an entry of its list and leaves the broker as it was
-pub refused_step : (m : Meaning) (b : Broker) (x : Call) (a : Answer) (d : Broker) → IsRefused a → Step m b x a d →
-    (r : Refusal) × RefusedBy m b x r × (a ≡ Refused r) × (d ≡ b)
+pub refused_step : (m : Meaning) (b : Broker) (x : Call) (a : Result Answer Refusal) (d : Broker) → IsRefused a → Step m b x a d →
+    (r : Refusal) × RefusedBy m b x r × (a ≡ Err r) × (d ≡ b)
 refused_step m b x a d n (Calls.refused {r = r} q) = (r, q, refl, refl)
 refused_step m b x a d n (Calls.started clear) = absurd (n tt)
 refused_step m b x a d n (Calls.admitted clear) = absurd (n tt)
@@ -78,10 +77,10 @@ refused_step m b x a d n (Calls.left clear e) = absurd (n tt)
 refused_step m b x a d n (Calls.estimated clear e) = absurd (n tt)
 refused_step m b x a d n (Calls.clocked clear) = absurd (n tt)
 
-pub unchanged : (m : Meaning) (b : Broker) (x : Call) (a : Answer) (d : Broker) → IsRefused a → Step m b x a d → d ≡ b
+pub unchanged : (m : Meaning) (b : Broker) (x : Call) (a : Result Answer Refusal) (d : Broker) → IsRefused a → Step m b x a d → d ≡ b
 unchanged m b x a d n s = (refused_step m b x a d n s).3
 
-pub refused_by : (m : Meaning) (b : Broker) (x : Call) (r : Refusal) (d : Broker) → Step m b x (Refused r) d → RefusedBy m b x r
+pub refused_by : (m : Meaning) (b : Broker) (x : Call) (r : Refusal) (d : Broker) → Step m b x (Err r) d → RefusedBy m b x r
 refused_by m b x r d (Calls.refused q) = q
 
 module _ (m : Meaning) (b : Broker) where

@@ -1,10 +1,11 @@
 -- Under the share price, from an ask that was turned away on, a client is not shorted.
-use Rattle.std.proofs.Common.{◌≡◌, ℕ, ◌+◌, ◌*◌, ◌/◌, ◌<◌, ◌≤◌, min, true, ◌≢◌, ◌⊎◌, List, [], ◌∷◌, ◌++◌, length, Some, None, Option, sym, refl, ap, ◌∙◌, subst, inl, inr, lt_of_mul-lt-mul_right, div-mul-le_self, arith}
+use Rattle.std.proofs.Common.{◌≡◌, ℕ, ◌+◌, ◌*◌, ◌/◌, ◌<◌, ◌≤◌, min, true, ◌≢◌, ◌⊎◌, List, [], ◌∷◌, ◌++◌, length, Some, None, Option, sym, refl, ap, ◌∙◌, subst, inl, inr, lt_of_mul-lt-mul_right, div-mul-le_self, arith, Result}
 use Rattle.std.proofs.lemmas.Bool.{cases_lt, cases_eq}
 use Rattle.std.proofs.lemmas.Bool.Decides.{nat_tests}
 use Rattle.rules.specs.declared.call.Call.{Call}
 use Rattle.rules.specs.declared.call.Call.TheVariants.{HandBack, Leave}
 use Rattle.rules.specs.declared.call.Answer.{Answer}
+use Rattle.rules.specs.declared.refusal.Refusal.{Refusal}
 use Rattle.rules.specs.Offers.{Meaning, Lawful}
 use Rattle.rules.specs.Rank.{above, ranks, offer_of}
 use Rattle.rules.specs.Laws.{Made}
@@ -12,7 +13,7 @@ use Rattle.laws.specs.ByNumber.{total, put}
 use Rattle.laws.specs.Division.{Clients, terms, minimum_of, capped, bid_of}
 use Rattle.laws.specs.Broker.{Broker, Client, new_broker, present, holding, maximum_of, shares_of, all_shares, share_of, MinimumsWithin, terms_of, MayTake}
 use Rattle.laws.specs.Calls
-use Rattle.laws.specs.Calls.{Step, Absent, with_stack, with_estimate, lasts, lasting}
+use Rattle.laws.specs.Calls.{Step, Absent, newcomer, with_stack, with_estimate, lasts, lasting}
 use Rattle.laws.specs.Histories.{Event, event, Run, start, then, reached, Each, Throughout, smallest, TurnsAway, Keeps}
 use Rattle.laws.specs.Guarantees.{TellsShare}
 use Rattle.laws.proofs.Puts.{put_at, put_off}
@@ -105,11 +106,11 @@ module _ (m : Meaning) (l : Lawful m) (share_told : TellsShare m) where
         c p (omega (arith, cap_is m l b k c)) (yields m l b k c p t))
 
   module _ (c : ℕ) (d : Broker) (k : Kept d) (w : MinimumsWithin d) (x : Client) (there : d.clients c ≡ Some x) where
-    step_stays : (y : Call) (a : Answer) (e : Broker) → Keeps c (event y a e) → Step m d y a e → Stays c d e
+    step_stays : (y : Call) (a : Result Answer Refusal) (e : Broker) → Keeps c (event y a e) → Step m d y a e → Stays c d e
     step_stays y a e n (Calls.refused r) = as_it_was c d e x there refl
     step_stays y a e n (Calls.started clear) = as_it_was c d e x there refl
-    step_stays y a e n (Calls.admitted {c = q} {s = s} {k = u} {l = v} {h = h} clear) =
-        replaced c d e x there q (Some (record { shares = s; class = u; minimum = v; maximum = h; estimate = None; stack = [] })) refl
+    step_stays y a e n (Calls.admitted {a = q} clear) =
+        replaced c d e x there q.client (Some (newcomer q)) refl
         (λ same at. absurd (clear.1.1.1.1.1.0 (λ none. none_some none (subst (λ (i : ℕ). d.clients i ≡ Some x) same there))))
     step_stays y a e n (Calls.granted_free {c = q} {f = f} {x = z} clear i j) =
         let o = with_stack z (f ∷ z.stack) in
@@ -140,8 +141,8 @@ module _ (m : Meaning) (l : Lawful m) (share_told : TellsShare m) where
     step_stays y a e n (Calls.handed_back {c = q} {fs = fs} {x = z} clear i j) =
         replaced c d e x there q (Some (with_stack z fs)) refl (λ same at. absurd ((n tt).0 (ap HandBack (sym same))))
     step_stays y a e n (Calls.left {c = q} {x = z} clear i) = replaced c d e x there q None refl (λ same at. absurd ((n tt).1 (ap Leave (sym same))))
-    step_stays y a e n (Calls.estimated {c = q} {a = v} {e = w} {x = z} clear i) =
-        let o = with_estimate z (Some (record { active = v; end = w })) in
+    step_stays y a e n (Calls.estimated {c = q} {e = v} {x = z} clear i) =
+        let o = with_estimate z (Some v) in
         replaced c d e x there q (Some o) refl (λ same at. not_less c d e x there q z o i same at refl (omega arith))
     step_stays y a e n (Calls.clocked {t = t} clear) =
         not_less c d e x there c x (with_estimate x (lasts t x.estimate)) there refl (ap (lasting t) there) refl (omega arith)

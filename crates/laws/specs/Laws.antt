@@ -11,7 +11,8 @@
 -- Asked                      a client has asked
 -- RestIsReached              where only asks and deliveries are accepted, accepted asks end and the broker comes to rest
 -- LowestPayerIsFound         there is one lowest payer, or none
-use Rattle.std.specs.Prelude.{◌≡◌, ℕ, ◌+◌, ◌≤◌, cond, ◌⊎◌, List, [], ◌∷◌, ◌++◌, Some, None, Option, ◌==◌, nat_le}
+use Rattle.std.specs.Prelude.{◌≡◌, ℕ, ◌+◌, ◌≤◌, cond, ◌⊎◌, List, [], ◌∷◌, ◌++◌, Some, None, Option, Result, ◌==◌, nat_le}
+use Rattle.rules.specs.declared.refusal.Refusal.{Refusal}
 use Rattle.rules.specs.Offers.{Meaning, Lawful}
 use Rattle.rules.specs.Refusals.{Rising}
 use Rattle.laws.specs.ByNumber.{total}
@@ -48,11 +49,11 @@ FramesLieOnce =
 
 abbrev pub OneAnswer : Type 0
 OneAnswer =
-    (m : Meaning) (b : Broker) (x : Call) (a c : Answer) (d e : Broker) → Step m b x a d → Step m b x c e → (a ≡ c) × (d ≡ e)
+    (m : Meaning) (b : Broker) (x : Call) (a c : Result Answer Refusal) (d e : Broker) → Step m b x a d → Step m b x c e → (a ≡ c) × (d ≡ e)
 
 abbrev pub EveryCallIsAnswered : Type 0
 EveryCallIsAnswered =
-    (m : Meaning) → Lawful m → (h : List Event) (b : Broker) → Run m new_broker h b → (x : Call) → (a : Answer) × (d : Broker) × Step m b x a d
+    (m : Meaning) → Lawful m → (h : List Event) (b : Broker) → Run m new_broker h b → (x : Call) → (a : Result Answer Refusal) × (d : Broker) × Step m b x a d
 
 pub record ListsRise : Type 0 where
   pub calls : (m : Meaning) (b : Broker) (x : Call) → Rising (entries m b x)

@@ -1,5 +1,5 @@
 -- Frames handed back, clients that leave, and estimates.
-use Rattle.std.proofs.Common.{◌≡◌, ℕ, zero, suc, ◌-◌, ◌<◌, ◌≢◌, List, [], ◌∷◌, ◌++◌, length, get_or, set, Some, None, Option, sym, refl, ap, ◌∙◌, subst, inl, inr, arith}
+use Rattle.std.proofs.Common.{◌≡◌, ℕ, zero, suc, ◌-◌, ◌≢◌, List, [], ◌∷◌, ◌++◌, length, get_or, set, Some, None, Ok, Option, sym, refl, ap, ◌∙◌, subst, inl, inr, arith}
 use mathlib.Core.Path.{fun_ext}
 use Rattle.rules.specs.Offers.{Meaning}
 use Rattle.rules.specs.Refusals.{Entry, entry, First}
@@ -7,17 +7,17 @@ use Rattle.rules.specs.declared.refusal.Refusal.{Refusal}
 use Rattle.rules.specs.declared.refusal.Refusal.TheVariants.{HoldsNoFrame}
 use Rattle.laws.specs.ByNumber.{put, by_number}
 use Rattle.laws.specs.Broker as rules
-use Rattle.laws.specs.Broker.{SlipNumbers}
-use Rattle.laws.specs.Calls.{HandBack, Leave, SetEstimate, Done, Frame, Count, Step, handed_back, left, estimated, IsClear, RefusedBy, entries}
-use Rattle.laws.proofs.Kept.{none_some, inside}
+use Rattle.laws.specs.Broker.{Estimate, SlipNumbers}
+use Rattle.laws.specs.Calls.{HandBack, Leave, SetEstimate, Done, Frame, Count, Step, handed_back, left, estimated, with_estimate, IsClear, RefusedBy, entries}
+use Rattle.laws.proofs.Kept.{inside}
 use Rattle.laws.proofs.Puts.{put_at, put_off, each_but}
 use Rattle.ledger.specs.declared.ledger.Ledger.{Ledger}
 use Rattle.ledger.specs.Ledgers.{stack_of}
 use Rattle.ledger.specs.Stacks.{Moved, Freed}
-use Rattle.pool.specs.Members.{Member, NoStray}
+use Rattle.pool.specs.Members.{Member}
 use Rattle.pool.specs.View.{client_of}
 use Rattle.pool.proofs.Views.{clients_of, seen, same_parts}
-use Rattle.pool.proofs.Tables.{set_each, set_clients}
+use Rattle.pool.proofs.Tables.{set_clients}
 
 -- a client with its stack
 abbrev pub client_with : Member → List ℕ → rules.Client
@@ -41,21 +41,15 @@ moved_clients xs s t c others = fun_ext (each_but c P here off)
     off : (d : ℕ) → d ≢ c → P d
     off d ne = same d ne ∙ sym (put_off (clients_of xs s) c (client_of (by_number xs c) (t c)) d ne)
 
--- frames that an admitted client gives up are strays nowhere
-pub moved_stray : (xs : List (Option Member)) (l k : Ledger) (c : ℕ) (x : Member) → by_number xs c ≡ Some x → ((d : ℕ) → d ≢ 0 → d ≢ c → stack_of k d ≡ stack_of l d) →
-    NoStray xs l → NoStray xs k
-moved_stray xs l k c x e others r i none =
-    others (suc i) (λ z. omega arith) (λ q. none_some none (subst (λ (d : ℕ). by_number xs d ≡ Some x) (sym q) e)) ∙ r i none
-
 pub hand_back_step : (m : Meaning) (u t n : ℕ) (p : Option SlipNumbers) (xs : List (Option Member)) (l k : Ledger) (c f : ℕ) (x : Member) → by_number xs c ≡ Some x →
     Moved (stack_of l) (stack_of k) c 0 f → k.frames ≡ l.frames →
-    IsClear m (seen u t n p xs l) (Leave c) → Step m (seen u t n p xs l) (HandBack c) (Frame f) (seen u t n p xs k)
+    IsClear m (seen u t n p xs l) (Leave c) → Step m (seen u t n p xs l) (HandBack c) (Ok (Frame f)) (seen u t n p xs k)
 hand_back_step m u t n p xs l k c f x e v same clear =
     let b = seen u t n p xs l in
     let it : b.clients c ≡ Some (client_with x (stack_of l c)) = ap (λ (o : Option Member). client_of o (stack_of l c)) e in
     let some : rules.holding b c ≡ 0 → ⊥ = λ z. let a = ap (λ (o : Option rules.Client). length (rules.stack_of o)) it in let q = ap length v.taken in omega (arith, z, a, q) in
     let after = moved_clients xs (stack_of l) (stack_of k) c (λ d a o. v.others d o a) ∙ ap (λ (o : Option Member). put b.clients c (client_of o (stack_of k c))) e in
-    subst (λ (d : rules.Broker). Step m b (HandBack c) (Frame f) d) (sym (same_parts u k.frames t n p same v.given after))
+    subst (λ (d : rules.Broker). Step m b (HandBack c) (Ok (Frame f)) d) (sym (same_parts u k.frames t n p same v.given after))
     (handed_back {x = client_with x (stack_of l c)} (clear.0, (clear.1.0, (clear.1.1.0, (some, tt)))) it v.taken)
 
 put_again : {A : Type 0} (g : ℕ → A) (c : ℕ) (a b : A) → put (put g c a) c b ≡ put g c b
@@ -70,34 +64,28 @@ put_again {A = A} g c a b = fun_ext (each_but c P here off)
     off : (d : ℕ) → d ≢ c → P d
     off d ne = put_off (put g c a) c b d ne ∙ (put_off g c a d ne ∙ sym (put_off g c b d ne))
 
--- a client that has left has left no frame
-pub left_stray : (xs : List (Option Member)) (l k : Ledger) (c r : ℕ) (x : Member) → c ≡ suc (c - 1) → c - 1 < length xs → by_number xs c ≡ Some x → Freed (stack_of l) (stack_of k) c r →
-    NoStray xs l → NoStray (set xs (c - 1) None) k
-left_stray xs l k c n x i h e v r =
-    set_each (λ j o. o ≡ None → stack_of k (suc j) ≡ []) None xs (c - 1) None h (λ _. subst (λ (d : ℕ). stack_of k d ≡ []) i v.emptied) (moved_stray xs l k c x e (λ d a o. v.others d a o) r)
-
 pub leave_step : (m : Meaning) (u t n : ℕ) (p : Option SlipNumbers) (xs : List (Option Member)) (l k : Ledger) (c r : ℕ) (x : Member) → length xs ≡ 256 → by_number xs c ≡ Some x →
     Freed (stack_of l) (stack_of k) c r → k.frames ≡ l.frames →
-    IsClear m (seen u t n p xs l) (Leave c) → Step m (seen u t n p xs l) (Leave c) (Count r) (seen u t n p (set xs (c - 1) None) k)
+    IsClear m (seen u t n p xs l) (Leave c) → Step m (seen u t n p xs l) (Leave c) (Ok (Count r)) (seen u t n p (set xs (c - 1) None) k)
 leave_step m u t n p xs l k c r x long e v same clear =
     let b = seen u t n p xs l in
     let in_table = inside 1 256 c clear.0 in
     let i : c ≡ suc (c - 1) = omega (arith, in_table) in
     let it : b.clients c ≡ Some (client_with x (stack_of l c)) = ap (λ (o : Option Member). client_of o (stack_of l c)) e in
     let after = set_clients xs (stack_of k) c (c - 1) None i (omega (arith, in_table, long)) ∙ (ap (λ (f : ℕ → Option rules.Client). put f c None) (moved_clients xs (stack_of l) (stack_of k) c (λ d a o. v.others d a o)) ∙ put_again b.clients c (client_of (by_number xs c) (stack_of k c)) None) in
-    let whole = subst (λ (d : rules.Broker). Step m b (Leave c) (Count (length (stack_of l c))) d) (sym (same_parts u k.frames t n p same v.free after)) (left {x = client_with x (stack_of l c)} clear it) in
-    subst (λ (q : ℕ). Step m b (Leave c) (Count q) (seen u t n p (set xs (c - 1) None) k)) (sym v.counted) whole
+    let whole = subst (λ (d : rules.Broker). Step m b (Leave c) (Ok (Count (length (stack_of l c)))) d) (sym (same_parts u k.frames t n p same v.free after)) (left {x = client_with x (stack_of l c)} clear it) in
+    subst (λ (q : ℕ). Step m b (Leave c) (Ok (Count q)) (seen u t n p (set xs (c - 1) None) k)) (sym v.counted) whole
 
-pub estimate_step : (m : Meaning) (u t n : ℕ) (p : Option SlipNumbers) (xs : List (Option Member)) (l : Ledger) (c active end : ℕ) (x : Member) → length xs ≡ 256 → by_number xs c ≡ Some x →
-    IsClear m (seen u t n p xs l) (SetEstimate c active end) →
-    Step m (seen u t n p xs l) (SetEstimate c active end) Done (seen u t n p (set xs (c - 1) (Some (record { shares = x.shares; class = x.class; minimum = x.minimum; maximum = x.maximum; estimate = Some (record { active = active; end = end }) }))) l)
-estimate_step m u t n p xs l c active end x long e clear =
+pub estimate_step : (m : Meaning) (u t n : ℕ) (p : Option SlipNumbers) (xs : List (Option Member)) (l : Ledger) (c : ℕ) (v : Estimate) (x y : Member) → length xs ≡ 256 → by_number xs c ≡ Some x →
+    IsClear m (seen u t n p xs l) (SetEstimate c v) → client_with y (stack_of l c) ≡ with_estimate (client_with x (stack_of l c)) (Some v) →
+    Step m (seen u t n p xs l) (SetEstimate c v) (Ok Done) (seen u t n p (set xs (c - 1) (Some y)) l)
+estimate_step m u t n p xs l c v x y long e clear with_it =
     let b = seen u t n p xs l in
     let in_table = inside 1 256 c clear.0 in
     let i : c ≡ suc (c - 1) = omega (arith, in_table) in
     let it : b.clients c ≡ Some (client_with x (stack_of l c)) = ap (λ (o : Option Member). client_of o (stack_of l c)) e in
-    let after = set_clients xs (stack_of l) c (c - 1) (Some (record { shares = x.shares; class = x.class; minimum = x.minimum; maximum = x.maximum; estimate = Some (record { active = active; end = end }) })) i (omega (arith, in_table, long)) in
-    subst (λ (d : rules.Broker). Step m b (SetEstimate c active end) Done d) (sym (same_parts u l.frames t n p refl refl after))
+    let after = set_clients xs (stack_of l) c (c - 1) (Some y) i (omega (arith, in_table, long)) ∙ ap (λ (z : rules.Client). put b.clients c (Some z)) with_it in
+    subst (λ (d : rules.Broker). Step m b (SetEstimate c v) (Ok Done) d) (sym (same_parts u l.frames t n p refl refl after))
     (estimated {x = client_with x (stack_of l c)} clear it)
 
 -- what every call of an admitted client is refused for is refused for in each of them

@@ -1,5 +1,5 @@
 -- A clock that drops one estimate after another makes one step.
-use Rattle.std.proofs.Common.{◌≡◌, ℕ, zero, suc, ◌+◌, ◌≤◌, Bool, true, false, cond, leb, Some, None, Option, sym, refl, ap, ◌∙◌, arith}
+use Rattle.std.proofs.Common.{◌≡◌, ℕ, zero, suc, ◌+◌, ◌≤◌, Bool, true, false, cond, leb, Some, None, Ok, Option, sym, refl, ap, ◌∙◌, arith}
 use mathlib.Core.Path.{fun_ext}
 use Rattle.rules.specs.Offers.{Meaning}
 use Rattle.laws.specs.ByNumber.{upto, total, Numbered, put}
@@ -9,9 +9,6 @@ use Rattle.laws.specs.Calls as Calls
 use Rattle.laws.proofs.Sums.{upto_same, upto_zero}
 use Rattle.laws.proofs.Puts.{put_each, put_sum}
 use Rattle.pool.specs.Clocks.{Clocked}
-
-pub clocked_none : (t : ℕ) (cs : ℕ → Option Client) → Clocked t cs 0 cs
-clocked_none t cs = record { last = λ c. refl; count = omega arith }
 
 -- an estimate that ends by the tick is dropped by it
 dropped : (t : ℕ) (v : Option Estimate) → ended t v ≡ 1 → lasts t v ≡ None
@@ -78,6 +75,6 @@ pub few_end : (t : ℕ) (cs : ℕ → Option Client) → total (λ c. ends t (cs
 few_end t cs = few_upto 256 (λ c. ends t (cs c)) (λ c. ends_one t (cs c))
 
 pub clock_step : (m : Meaning) (b : Broker) (t n : ℕ) (ds : ℕ → Option Client) → IsClear m b (SetClock t) → Clocked t b.clients n ds → ((c : ℕ) → ends t (ds c) ≡ 0) →
-    Step m b (SetClock t) (Count n) (record { unit = b.unit; frames = b.frames; tick = t; asks = b.asks; free = b.free; clients = ds; passage = b.passage })
+    Step m b (SetClock t) (Ok (Count n)) (record { unit = b.unit; frames = b.frames; tick = t; asks = b.asks; free = b.free; clients = ds; passage = b.passage })
 clock_step m b t n ds clear k h =
     let all = clocked_all t b.clients n ds k h in rw (all.0, all.1) (Calls.clocked clear)

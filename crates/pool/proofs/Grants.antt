@@ -1,5 +1,5 @@
 -- Frames granted: from the free stack, or from another client.
-use Rattle.std.proofs.Common.{◌≡◌, ℕ, zero, suc, ◌+◌, ◌%◌, ◌^◌, ◌<◌, ◌≢◌, List, [], ◌∷◌, length, Some, None, Option, sym, refl, ap, ◌∙◌, subst, inl, inr, arith}
+use Rattle.std.proofs.Common.{◌≡◌, ℕ, zero, suc, ◌+◌, ◌%◌, ◌^◌, ◌<◌, ◌≢◌, List, [], ◌∷◌, length, Some, None, Ok, Option, sym, refl, ap, ◌∙◌, subst, inl, inr, arith}
 use mathlib.Core.Path.{fun_ext}
 use Rattle.std.proofs.lemmas.List.{get_or_past}
 use Rattle.std.proofs.lemmas.Bool.{cases_lt}
@@ -15,7 +15,7 @@ use Rattle.ledger.specs.Ledgers.{stack_of}
 use Rattle.ledger.specs.Stacks.{Moved}
 use Rattle.pool.specs.Members.{Member}
 use Rattle.pool.specs.View.{client_of, Source}
-use Rattle.pool.proofs.Views.{clients_of, seen}
+use Rattle.pool.proofs.Views.{clients_of, seen, same_parts}
 use Rattle.pool.proofs.Changes.{client_with, moved_clients}
 
 -- a client that is there is noted
@@ -28,10 +28,6 @@ pub holder : (o : Option Member) (fs : List ℕ) (n : ℕ) → n < length (rules
 holder (Some x) fs n h = (x, refl)
 holder None fs n h = absurd (omega (arith, h))
 
-same_grant : (u F t n : ℕ) (p : Option SlipNumbers) {G : ℕ} {fs gs : List ℕ} {cs ds : ℕ → Option rules.Client} → F ≡ G → fs ≡ gs → cs ≡ ds →
-    ◌≡◌ {A = rules.Broker} (record { unit = u; frames = F; tick = t; asks = n; free = fs; clients = cs; passage = p }) (record { unit = u; frames = G; tick = t; asks = n; free = gs; clients = ds; passage = p })
-same_grant u F t n p e f g = cc
-
 module _ (m : Meaning) (u t n : ℕ) (p : Option SlipNumbers) (xs : List (Option Member)) (l k : Ledger) (c f : ℕ) (same : k.frames ≡ l.frames) where
   abbrev before : rules.Broker
   before = seen u t n p xs l
@@ -40,23 +36,23 @@ module _ (m : Meaning) (u t n : ℕ) (p : Option SlipNumbers) (xs : List (Option
   abbrev after : ℕ → rules.Broker
   after q = seen u t ((n + 1) % 2 ^ 64) (Some (slip before c f q)) xs k
 
-  granted_of_free : (x : Member) → by_number xs c ≡ Some x → Moved (stack_of l) (stack_of k) 0 c f → IsClear m before (Ask c) → Step m before (Ask c) (Granted (slip before c f 0)) (after 0)
+  granted_of_free : (x : Member) → by_number xs c ≡ Some x → Moved (stack_of l) (stack_of k) 0 c f → IsClear m before (Ask c) → Step m before (Ask c) (Ok (Granted (slip before c f 0))) (after 0)
   granted_of_free x e v clear =
       let it : before.clients c ≡ Some (client_with x (stack_of l c)) = ap (λ (o : Option Member). client_of o (stack_of l c)) e in
       let clients : clients_of xs (stack_of k) ≡ put before.clients c (Some (client_with x (f ∷ stack_of l c))) =
       moved_clients xs (stack_of l) (stack_of k) c (λ d a o. v.others d a o) ∙ (ap (λ (o : Option Member). put before.clients c (client_of o (stack_of k c))) e ∙ ap (λ (fs : List ℕ). put before.clients c (Some (client_with x fs))) v.given) in
-      subst (λ (d : rules.Broker). Step m before (Ask c) (Granted (slip before c f 0)) d) (sym (same_grant u k.frames t ((n + 1) % 2 ^ 64) (Some (slip before c f 0)) same refl clients))
+      subst (λ (d : rules.Broker). Step m before (Ask c) (Ok (Granted (slip before c f 0))) d) (sym (same_parts u k.frames t ((n + 1) % 2 ^ 64) (Some (slip before c f 0)) same refl clients))
       (granted_free {x = client_with x (stack_of l c)} clear it v.taken)
 
   granted_of_payer : (q : ℕ) (x y : Member) → by_number xs c ≡ Some x → by_number xs q ≡ Some y → q ≢ c → Moved (stack_of l) (stack_of k) q c f → before.free ≡ [] → MayTake m before c q → IsClear m before (Ask c) →
-      Step m before (Ask c) (Granted (slip before c f q)) (after q)
+      Step m before (Ask c) (Ok (Granted (slip before c f q))) (after q)
   granted_of_payer q x y e g ne v none may clear =
       let it : before.clients c ≡ Some (client_with x (stack_of l c)) = ap (λ (o : Option Member). client_of o (stack_of l c)) e in
       let its : before.clients q ≡ Some (client_with y (stack_of l q)) = ap (λ (o : Option Member). client_of o (stack_of l q)) g in
       let no_client : 0 ≢ c = λ z. none_some refl (subst (λ (d : ℕ). by_number xs d ≡ Some x) (sym z) e) in
       let no_payer : 0 ≢ q = λ z. none_some refl (subst (λ (d : ℕ). by_number xs d ≡ Some y) (sym z) g) in
       let free : stack_of k 0 ≡ [] = v.others 0 no_payer no_client ∙ none in
-      subst (λ (d : rules.Broker). Step m before (Ask c) (Granted (slip before c f q)) d) (sym (same_grant u k.frames t ((n + 1) % 2 ^ 64) (Some (slip before c f q)) same free clients))
+      subst (λ (d : rules.Broker). Step m before (Ask c) (Ok (Granted (slip before c f q))) d) (sym (same_parts u k.frames t ((n + 1) % 2 ^ 64) (Some (slip before c f q)) same free clients))
       (granted_from {x = client_with x (stack_of l c)} {y = client_with y (stack_of l q)} clear it none may its v.taken)
     where
       X : Option rules.Client
@@ -84,25 +80,15 @@ module _ (m : Meaning) (u t n : ℕ) (p : Option SlipNumbers) (xs : List (Option
       clients : clients_of xs (stack_of k) ≡ put (put before.clients q Y) c X
       clients = fun_ext (each_but_two c q P here there off)
 
-  pub grant_step : (q : ℕ) → Moved (stack_of l) (stack_of k) q c f → IsClear m before (Ask c) → Source m before c q → q ≢ c → Step m before (Ask c) (Granted (slip before c f q)) (after q)
+  pub grant_step : (q : ℕ) → Moved (stack_of l) (stack_of k) q c f → IsClear m before (Ask c) → Source m before c q → q ≢ c → Step m before (Ask c) (Ok (Granted (slip before c f q))) (after q)
   grant_step q v clear source ne =
       let x = noted (by_number xs c) (stack_of l c) clear.1.1.0 in
       elim source [
-        | inl (z, _) ↦ subst (λ (d : ℕ). Step m before (Ask c) (Granted (slip before c f d)) (after d)) (sym z) (granted_of_free x.0 x.1 (subst (λ (d : ℕ). Moved (stack_of l) (stack_of k) d c f) z v) clear)
+        | inl (z, _) ↦ subst (λ (d : ℕ). Step m before (Ask c) (Ok (Granted (slip before c f d))) (after d)) (sym z) (granted_of_free x.0 x.1 (subst (λ (d : ℕ). Moved (stack_of l) (stack_of k) d c f) z v) clear)
         | inr (none, may) ↦
             let y = holder (by_number xs q) (stack_of l q) _ may.0.beyond in
             granted_of_payer q x.0 y.0 x.1 y.1 ne v none may clear
       ]
-
--- where a frame may come from, there is one
-pub no_source : (m : Meaning) (u t n : ℕ) (p : Option SlipNumbers) (xs : List (Option Member)) (l : Ledger) (c q : ℕ) → stack_of l q ≡ [] → Source m (seen u t n p xs l) c q → ⊥
-no_source m u t n p xs l c q none (inl (z, some)) = some (subst (λ (d : ℕ). stack_of l d ≡ []) z none)
-no_source m u t n p xs l c q none (inr (free, may)) =
-    let y = holder (by_number xs q) (stack_of l q) _ may.0.beyond in
-    let h = may.0.beyond in
-    let e = ap (λ (o : Option Member). length (rules.stack_of (client_of o (stack_of l q)))) y.1 in
-    let z = ap length none in
-    omega (arith, h, e, z)
 
 -- who is noted has a client number
 pub noted_numbered : (xs : List (Option Member)) → length xs ≡ 256 → (c : ℕ) (x : Member) → by_number xs c ≡ Some x → Numbered c

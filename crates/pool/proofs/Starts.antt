@@ -1,5 +1,5 @@
 -- A new broker, and one that is given its frames.
-use Rattle.std.proofs.Common.{◌≡◌, ℕ, zero, suc, List, [], ◌∷◌, get_or, replicate, None, Option, sym, refl, ap, ◌∙◌, subst, inl, inr, add-one, arith}
+use Rattle.std.proofs.Common.{◌≡◌, ℕ, zero, suc, true, false, List, [], ◌∷◌, get_or, replicate, is_ok, None, Ok, Err, MatchResult, Option, Result, sym, refl, ap, ◌∙◌, subst, inl, inr, add-one, arith}
 use mathlib.Core.Path.{fun_ext}
 use lib.ListN.{length-replicate}
 use Rattle.std.specs.List.{range_with_len}
@@ -43,7 +43,16 @@ no_stack l e o =
     ]
 
 pub start_step : (m : Meaning) (v t n : ℕ) (p : Option SlipNumbers) (xs : List (Option Member)) (l k : Ledger) (u F : ℕ) → Started l k F →
-    IsClear m (seen v t n p xs l) (Start u F) → Step m (seen v t n p xs l) (Start u F) Done (seen u t n p xs k)
+    IsClear m (seen v t n p xs l) (Start u F) → Step m (seen v t n p xs l) (Start u F) (Ok Done) (seen u t n p xs k)
 start_step m v t n p xs l k u F s clear =
     let e = same_parts u k.frames t n p s.frames (s.filled.free ∙ counted 1 F) (same_clients xs (stack_of k) (stack_of l) (λ i. s.filled.others (suc i) (λ z. omega arith) ∙ sym (no_stack l s.none_before (suc i)))) in
-    subst (λ (d : rules.Broker). Step m (seen v t n p xs l) (Start u F) Done d) (sym e) (started clear)
+    subst (λ (d : rules.Broker). Step m (seen v t n p xs l) (Start u F) (Ok Done) d) (sym e) (started clear)
+
+-- what a clause says of a result whose variant is known
+pub at_ok : {T E : Type 0} (P : T → Type 0) (Q : E → Type 0) (r : Result T E) → true ≡ is_ok r → MatchResult r P Q → (x : T) × P x
+at_ok P Q (Ok x) e h = (x, h)
+at_ok P Q (Err d) e h = grind (arith, e)
+
+pub at_err : {T E : Type 0} (P : T → Type 0) (Q : E → Type 0) (r : Result T E) → false ≡ is_ok r → MatchResult r P Q → (d : E) × Q d
+at_err P Q (Ok x) e h = grind (arith, e)
+at_err P Q (Err d) e h = (d, h)

@@ -1,10 +1,9 @@
 -- A heap of ends as a map from clients to ticks.
-use Rattle.std.proofs.Common.{◌≡◌, ℕ, ◌≤◌, Bool, true, false, cond, eqb, List, Some, None, Option, refl, ap, ◌∙◌, arith}
+use Rattle.std.proofs.Common.{◌≡◌, ℕ, ◌≤◌, true, eqb, Some, None, Option, refl, ap, arith}
 use Rattle.std.specs.Map.{update}
 use Rattle.std.specs.Option.{option_map}
 use Rattle.std.proofs.lemmas.Bool.Decides.{nat_tests}
-use Rattle.heap.specs.declared.records.Record.{Record}
-use Rattle.heap.specs.Heaps.{keys, is_in, Least}
+use Rattle.heap.specs.Heaps.{Least}
 use Rattle.laws.specs.ByNumber.{put}
 use Rattle.laws.proofs.Kept.{none_some}
 use Rattle.pool.specs.declared.ends.End.{End}
@@ -14,27 +13,10 @@ use Rattle.pool.specs.Ends.{Earliest}
 abbrev ticks : (ℕ → Option End) → ℕ → Option ℕ
 ticks m c = option_map (λ e. e.tick) (m c)
 
-nobody_keyed : (xs : List (Record End)) (c : ℕ) → keys xs 0 c ≡ None
-unfolding keys is_in
-nobody_keyed xs c = grind (arith, nat_tests)
-
-pub nobody_in : (xs : List (Record End)) (c : ℕ) → ticks (keys xs 0) c ≡ None
-nobody_in xs c = ap (option_map (λ e. e.tick)) (nobody_keyed xs c)
-
 -- an update at a number is what is put there
 pub update_put : {A : Type 0} (f : ℕ → Option A) (c : ℕ) (x : Option A) (d : ℕ) → update eqb f c x d ≡ put f c x d
 unfolding put
 update_put f c x d = grind (arith, nat_tests)
-
--- one key replaced is one tick replaced
-pub tick_put : (m n : ℕ → Option End) (o : ℕ) (w : Option End) → ((q : ℕ) → n q ≡ update eqb m o w q) →
-    (q : ℕ) → ticks n q ≡ put (ticks m) o (option_map (λ e. e.tick) w) q
-unfolding put
-tick_put m n o w h q = ap (option_map (λ e. e.tick)) (h q ∙ update_put m o w q) ∙ chosen (eqb q o)
-  where
-    chosen : (b : Bool) → option_map (λ e. e.tick) (cond b w (m q)) ≡ cond b (option_map (λ e. e.tick) w) (ticks m q)
-    chosen true = refl
-    chosen false = refl
 
 -- the first of the keys has the first of the ticks
 pub least_earliest : (m : ℕ → Option End) (c : ℕ) (k : End) → Least leads m c k → Earliest (ticks m) c k.tick

@@ -1,28 +1,22 @@
 -- The table of clients, and what it always keeps.
 --
 -- Member         as in the code: what is noted of a client besides its frames
--- in_ranges      the shares, the class and the maximum that are noted in a place, where there are any, are in their ranges
--- InRanges       so they are in every place
+-- offer_at       the offer of a client at a count, of what is noted of it
 -- NoStray        a client that is not admitted has no frames
 -- estimate_end   the tick at which an estimate ends, if there is one
 -- end_in         the tick at which the estimate that is noted in a place ends, if there is one
 -- same_tick      two ticks, or none, are the same
 -- EndsNoted      the ends that are kept are those of the estimates in the table
-use Rattle.std.specs.Prelude.{◌≡◌, ℕ, suc, Bool, true, false, ◌&&◌, List, [], Some, None, Option, ◌==◌, nat_le, slice_index_or}
+use Rattle.std.specs.Prelude.{◌≡◌, ℕ, suc, Bool, true, false, List, [], Some, None, Option, ◌==◌, slice_index_or}
+use Rattle.rules.specs.declared.offer.Offer.{Offer}
 use Rattle.laws.specs.ByNumber.{by_number}
-use Rattle.laws.specs.Broker.{Estimate}
+use Rattle.laws.specs.Broker.{Estimate, active_of}
 use Rattle.ledger.specs.declared.ledger.Ledger.{Ledger}
 use Rattle.ledger.specs.Ledgers.{stack_of}
-use Rattle.pool.specs.declared.ends.Ends.{Ends}
-use Rattle.pool.specs.Ends.{end_of}
 pub use Rattle.pool.specs.declared.member.Member.{Member}
 
-abbrev pub in_ranges : Option Member → Bool
-in_ranges None = true
-in_ranges (Some x) = nat_le 1 x.shares && (nat_le x.shares 1_000_000 && (nat_le x.class 9 && nat_le x.maximum 4_096))
-
-abbrev pub InRanges : List (Option Member) → Type 0
-InRanges xs = (i : ℕ) → in_ranges (slice_index_or xs i None) ≡ true
+abbrev pub offer_at : Member → ℕ → Offer
+offer_at x k = record { shares = x.shares; class = x.class; active = active_of x.estimate; count = k }
 
 -- Client c stands in place c - 1, and its frames are in stack c.
 abbrev pub NoStray : List (Option Member) → Ledger → Type 0
@@ -42,5 +36,5 @@ same_tick None None = true
 same_tick (Some s) None = false
 same_tick None (Some t) = false
 
-abbrev pub EndsNoted : List (Option Member) → Ends → Type 0
-EndsNoted xs es = (c : ℕ) → same_tick (end_of es c) (end_in (by_number xs c)) ≡ true
+abbrev pub EndsNoted : List (Option Member) → (ℕ → Option ℕ) → Type 0
+EndsNoted xs es = (c : ℕ) → same_tick (es c) (end_in (by_number xs c)) ≡ true

@@ -4,21 +4,18 @@
 -- client_of    a client as the rules speak of it, of what is noted of it and its stack
 -- view         the pool as the rules speak of it
 -- height       how many frames lie in a client's stack, and for 0 in the free stack
--- done         the answer to a call that answers nothing more where it is accepted
--- handed       the answer to a call that answers a frame
--- counted      the answer to a call that answers a count
 -- Steps        a call on a pool is a step of the rules, under every price
 -- Source       where the frame of an ask may come from: the free stack, told as 0, or a client that has to give one up
 -- Grants       a frame has been granted, as the rules have it if it may come from there, or there was none to grant
 -- Opens        a frame granted from there opens the passage of its slip
 -- NextClient   the lowest number above another that an admitted client has, or none where no client has one
-use Rattle.std.specs.Prelude.{◌≡◌, ℕ, ◌<◌, ◌≢◌, ◌⊎◌, List, [], length, Some, None, Ok, Err, Option, Result}
+use Rattle.std.specs.Prelude.{◌≡◌, ℕ, ◌<◌, ◌≢◌, ◌⊎◌, List, [], length, Some, None, Ok, Option, Result}
 use Rattle.rules.specs.Offers.{Meaning}
 use Rattle.rules.specs.declared.refusal.Refusal.{Refusal}
 use Rattle.laws.specs.ByNumber.{by_number}
 use Rattle.laws.specs.Broker as rules
 use Rattle.laws.specs.Broker.{SlipNumbers, MayTake}
-use Rattle.laws.specs.Calls.{Call, Ask, Answer, Done, Granted, Frame, Count, Refused, Step, IsClear, Absent}
+use Rattle.laws.specs.Calls.{Call, Ask, Answer, Granted, Step, IsClear, Absent}
 use Rattle.ledger.specs.Ledgers.{stack_of}
 use Rattle.pool.specs.declared.member.Member.{Member}
 pub use Rattle.pool.specs.declared.pool.Pool.{Pool}
@@ -43,21 +40,7 @@ view b =
 abbrev pub height : Pool → ℕ → ℕ
 height b o = length (stack_of b.ledger o)
 
-abbrev pub done : Result (Unit {0}) Refusal → Answer
-done (Ok _) = Done
-done (Err r) = Refused r
-
--- A hand-back answers the frame.
-abbrev pub handed : Result ℕ Refusal → Answer
-handed (Ok f) = Frame f
-handed (Err r) = Refused r
-
--- A leave answers how many frames came free, and a clock how many estimates ended.
-abbrev pub counted : Result ℕ Refusal → Answer
-counted (Ok n) = Count n
-counted (Err r) = Refused r
-
-abbrev pub Steps : Pool → Call → Answer → Pool → Type 0
+abbrev pub Steps : Pool → Call → Result Answer Refusal → Pool → Type 0
 Steps b x a d = (m : Meaning) → Step m (view b) x a (view d)
 
 abbrev pub Source : Meaning → rules.Broker → ℕ → ℕ → Type 0
@@ -65,7 +48,7 @@ Source m b c p = ((p ≡ 0) × (b.free ≢ [])) ⊎ ((b.free ≡ []) × MayTake 
 
 -- A client that may take a frame does not take it from itself; that is for the caller to show, under its price.
 abbrev pub Grants : rules.Broker → ℕ → ℕ → Option SlipNumbers → rules.Broker → Type 0
-Grants b c p (Some s) d = (m : Meaning) → IsClear m b (Ask c) → Source m b c p → p ≢ c → Step m b (Ask c) (Granted s) d
+Grants b c p (Some s) d = (m : Meaning) → IsClear m b (Ask c) → Source m b c p → p ≢ c → Step m b (Ask c) (Ok (Granted s)) d
 Grants b c p None d = (d ≡ b) × ((m : Meaning) → Source m b c p → p ≢ c → ⊥)
 
 abbrev pub Opens : ℕ → Option SlipNumbers → rules.Broker → Type 0

@@ -1,8 +1,10 @@
 //! What the broker notes of an admitted client besides its frames.
-ghost use Rattle.std.specs.Prelude.{◌≡◌, nat_lt};
+ghost use Rattle.std.specs.Prelude.{◌≡◌, ℕ, ◌^◌, ◌<◌, ◌≤◌, Some};
 ghost use Rattle.laws.specs.Broker.{active_of};
 
 use rules::Estimate;
+
+mod terms;
 
 /// A client's terms as it was admitted, and its estimate where one is in force.
 #[derive(Clone, Copy, Drop)]
@@ -12,32 +14,11 @@ pub struct Member {
     pub minimum: u32,
     pub maximum: u32,
     pub estimate: Option<Estimate>,
-}
-
-impl Member {
-    /// The active count that is estimated, if one is.
-    pub fn active(&self) -> Option<u32>
-        ensures { result ≡ active_of self.now.estimate }
-    {
-        match self.estimate {
-            Some(estimate) => Some(estimate.active),
-            None => None,
-        }
-    }
-
-    /// Whether so many frames are fewer than its minimum.
-    pub fn is_below(&self, holding: u32) -> bool
-        ensures { result ≡ nat_lt holding self.now.minimum }
-    {
-        holding < self.minimum
-    }
-
-    /// Whether so many frames are more than its minimum.
-    pub fn is_beyond(&self, holding: u32) -> bool
-        ensures { result ≡ nat_lt self.now.minimum holding }
-    {
-        holding > self.minimum
-    }
+    ghost some_shares: { 1 ≤ shares },
+    ghost few_shares: { shares ≤ 1_000_000 },
+    ghost low_class: { class ≤ 9 },
+    ghost few_frames: { maximum ≤ 4_096 },
+    ghost small_active: { (a : ℕ) → active_of estimate ≡ Some a → a < 2 ^ 32 },
 }
 
 /// Sums over all clients.

@@ -1,9 +1,11 @@
 //! The pool and what it always keeps.
 ghost use Rattle.std.specs.Prelude.{◌≡◌, length};
-ghost use Rattle.pool.specs.Members.{InRanges, NoStray, EndsNoted};
+ghost use Rattle.pool.specs.Ends.{end_of};
+ghost use Rattle.pool.specs.Members.{NoStray, EndsNoted};
 
-use crate::ends::Ends;
+use crate::ends::End;
 use crate::member::Member;
+use heap::IndexedHeap;
 use ledger::Ledger;
 use rules::SlipNumbers;
 
@@ -23,9 +25,8 @@ pub struct Pool {
     passage: Option<SlipNumbers>,
     members: [Option<Member>; 256],
     ledger: Ledger,
-    ends: Ends,
+    ends: IndexedHeap<End, 257>,
     ghost places: { length members ≡ 256 },
-    ghost ranges: { InRanges members },
     ghost stray: { NoStray members ledger },
-    ghost noted: { EndsNoted members ends },
+    ghost noted: { EndsNoted members (end_of ends) },
 }

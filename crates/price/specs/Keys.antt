@@ -4,15 +4,17 @@
 -- Keyed       a ranked bid is made of this client, this minimum and this offer under a price
 -- KeyOf       a ranked bid is that of a bid under a price
 -- within      the count is at most the minimum
--- first       a test decides where one of two wins it, and else the tests after it
--- outranks    one ranked bid ranks above another, by the five tests of the rank
+-- recalled    a price that tells of an offer its class, and its shares over its active count
+-- recalling   a bid whose offer says what was told of a ranked bid: this price tells just that of it
+-- outranks    one ranked bid ranks above another, as those two bids do under that price
 -- leads       one ranked bid ranks no higher than another
 -- RanksBids   ranked bids rank as the bids that they are of
-use Rattle.std.specs.Prelude.{◌≡◌, ℕ, ◌*◌, Bool, true, false, cond, not, ◌&&◌, nat_le, nat_lt}
+use Rattle.std.specs.Prelude.{◌≡◌, ℕ, Bool, not, nat_le, Some}
+use Rattle.std.specs.Option.{unwrap_or}
 use Rattle.rules.specs.declared.offer.Offer.{Offer}
 use Rattle.rules.specs.declared.offer.Bid.{Bid}
 use Rattle.rules.specs.Offers.{Meaning}
-use Rattle.rules.specs.Rank.{offer_of, above}
+use Rattle.rules.specs.Rank.{bid_at, offer_of, above}
 use Rattle.price.specs.declared.key.Ranked.{Ranked}
 
 pub record Keyed (m : Meaning) (c n : ℕ) (o : Offer) (x : Ranked) : Type 0 where
@@ -27,15 +29,15 @@ KeyOf m b x = Keyed m b.client b.terms.minimum (offer_of b) x
 abbrev pub within : Ranked → Bool
 within x = nat_le x.count x.minimum
 
-abbrev pub first : (Ranked → Ranked → Bool) → (Ranked → Ranked → Bool) → Ranked → Ranked → Bool
-first test rest x y = cond (test x y) true (cond (test y x) false (rest x y))
+abbrev pub recalled : Meaning
+recalled o = record { class = o.class; top = o.shares; bottom = unwrap_or o.active 0 }
+
+abbrev pub recalling : Ranked → Bid
+recalling x =
+    bid_at x.client (record { shares = x.quote.top; class = x.quote.class; minimum = x.minimum; maximum = x.minimum; active = Some x.quote.bottom }) x.count
 
 abbrev pub outranks : Ranked → Ranked → Bool
-outranks =
-    first (λ x y. within x && not (within y))
-    (first (λ x y. nat_lt y.quote.class x.quote.class)
-    (first (λ x y. nat_lt (y.quote.top * x.quote.bottom) (x.quote.top * y.quote.bottom))
-    (first (λ x y. nat_lt x.client y.client) (λ x y. nat_lt x.count y.count))))
+outranks x y = above recalled (recalling x) (recalling y)
 
 abbrev pub leads : Ranked → Ranked → Bool
 leads x y = not (outranks x y)

@@ -1,4 +1,2 @@
-pub mod Choice
 pub mod Keys
 pub mod Sheets
-pub mod Lines

@@ -2,9 +2,10 @@
 //! sheet of the taxed price.
 #![tactic(auto)]
 
+mod choice;
 mod class;
-mod either;
 mod key;
+mod lent;
 mod offer;
 mod share;
 mod sheet;
@@ -12,7 +13,6 @@ mod taxed;
 mod telling;
 
 pub use class::ClassPrice;
-pub use either::EitherPrice;
 pub use key::Ranked;
 pub use offer::ValidOffer;
 pub use share::SharePrice;

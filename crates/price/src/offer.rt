@@ -1,5 +1,5 @@
 //! Offers that a client can make.
-ghost use Rattle.std.specs.Prelude.{◌≡◌, ℕ, ◌^◌, ◌<◌, ◌≤◌, Some};
+ghost use Rattle.rules.specs.Offers.{Valid};
 
 use rules::Offer;
 
@@ -9,10 +9,5 @@ mod make;
 #[derive(Clone, Copy, Drop)]
 pub struct ValidOffer {
     offer: Offer,
-    ghost some_shares: { 1 ≤ offer.shares },
-    ghost few_shares: { offer.shares ≤ 1_000_000 },
-    ghost low_class: { offer.class ≤ 9 },
-    ghost small_active: { (a : ℕ) → offer.active ≡ Some a → a < 2 ^ 32 },
-    ghost some_frame: { 1 ≤ offer.count },
-    ghost few_frames: { offer.count ≤ 4_096 },
+    ghost valid: { Valid offer },
 }

@@ -11,10 +11,8 @@ fn fill(price: &TaxedPrice, active: Option<u32>, sheet: &mut [u32])
     requires { length sheet.old ≤ 4_096 }
     ensures { Sheet price.now.rate active sheet.new }
 {
-    let mut count = 0;
-    for place in sheet.iter_mut() {
-        count += 1;
-        *place = price.bottom(active, count);
+    for (i, place) in sheet.iter_mut().enumerate() {
+        *place = price.bottom(active, i as u32 + 1);
     }
 }
 

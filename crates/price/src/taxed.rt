@@ -32,10 +32,7 @@ impl TaxedPrice {
         requires { count ≤ 4_096 }
         ensures { result ≡ taxed_bottom self.now.rate active count }
     {
-        let used = match active {
-            Some(active) => count.min(active),
-            None => count,
-        };
+        let used = active.map_or(count, |active| count.min(active));
         (100 - self.rate) * used + 100 * (count - used)
     }
 }

@@ -1,30 +1,41 @@
-//! A price that borrows another, as a price over a table that several brokers read will.
-use price::{Price, TaxedPrice, ValidOffer};
-use rules::Quote;
+//! Prices that are lent, as a price over a table that several brokers read will be.
+use crate::prices::{tells, told};
+use price::{ClassPrice, Price, Ranked, SharePrice, TaxedPrice, ValidOffer};
 use std::test::Fail;
-
-#[derive(Drop)]
-struct Lent<'a, P> {
-    price: &'a P,
-}
-
-impl<'a, P: Price> Price for Lent<'a, P> {
-    ghost meaning = { λ p. P.Price.meaning p.price.now };
-
-    ghost lawful = { λ p. P.Price.lawful p.price.now };
-
-    fn quote(&self, offer: ValidOffer) -> Quote {
-        self.price.quote(offer)
-    }
-}
 
 #[test]
 fn two_lent_prices_tell_what_the_one_tells(rt: HostRuntime) -> Result<(), Fail> {
     let price = TaxedPrice::new(75)?;
-    let first = Lent { price: &price };
-    let second = Lent { price: &price };
+    let first = &price;
+    let second = &price;
     let offer = ValidOffer::new(100, 0, Some(2), 4)?;
-    assert_eq!(rt; first.quote(offer), price.quote(offer));
-    assert_eq!(rt; second.quote(offer), price.quote(offer));
+    let quote = price.quote(offer);
+    tells(&rt, &first, &[(offer, quote)]);
+    tells(&rt, &second, &[(offer, quote)]);
+    Ok(())
+}
+
+/// The highest bottom that any of these prices tells of an offer.
+fn highest_bottom(prices: &[&dyn Price], offer: ValidOffer) -> u32 {
+    let mut highest = 0;
+    for price in prices {
+        highest = highest.max(price.quote(offer).bottom);
+    }
+    highest
+}
+
+#[test]
+fn prices_of_three_types_stand_in_one_list(rt: HostRuntime) -> Result<(), Fail> {
+    let taxed = TaxedPrice::new(75)?;
+    let classed = ClassPrice::new(SharePrice);
+    let prices: [&dyn Price; 3] = [&SharePrice, &taxed, &classed];
+    let offer = ValidOffer::new(100, 3, Some(2), 4)?;
+    tells(&rt, &prices[0], &[(offer, told(0, 100, 4))]);
+    tells(&rt, &prices[1], &[(offer, told(0, 2500, 250))]);
+    tells(&rt, &prices[2], &[(offer, told(3, 100, 4))]);
+    assert_eq!(rt; highest_bottom(&prices, offer), 250);
+    let bids = prices.map(|price| Ranked::new(&price, 1, 0, offer));
+    assert!(rt; bids[2].ranks_above(&bids[0]));
+    assert!(rt; bids[0].ranks_above(&bids[1]));
     Ok(())
 }

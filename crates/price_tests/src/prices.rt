@@ -1,74 +1,67 @@
 //! The examples.
+use either::{Either, Left};
 use heap::Order;
-use price::{
-    ClassPrice, EitherPrice, Price, Ranked, SharePrice, TaxedPrice, ValidOffer, tariff_sheet,
-};
+use price::{ClassPrice, Price, Ranked, SharePrice, TaxedPrice, ValidOffer, tariff_sheet};
 use rules::{Quote, Refusal};
 use std::process::Abort;
 use std::test::Fail;
 
-/// An offer's shares, class, active count or none, and count, and what is told of it: class, top and bottom.
-type Example = (u32, u32, Option<u32>, u32, u8, u32, u32);
-
-fn tells<P: Price>(rt: &impl Abort, price: &P, examples: &[Example]) -> Result<(), Fail> {
-    for (shares, class, active, count, told, top, bottom) in examples {
-        let offer = ValidOffer::new(*shares, *class, *active, *count)?;
-        let quote = Quote {
-            class: *told,
-            top: *top,
-            bottom: *bottom,
-        };
-        assert_eq!(rt; price.quote(offer), quote);
+/// Asks a price for its quotes of offers, each beside the quote that it owes.
+pub(crate) fn tells<P: Price>(rt: &impl Abort, price: &P, examples: &[(ValidOffer, Quote)]) {
+    for (offer, quote) in examples {
+        assert_eq!(rt; price.quote(*offer), *quote);
     }
-    Ok(())
+}
+
+/// A quote of this class, top and bottom.
+pub(crate) fn told(class: u8, top: u32, bottom: u32) -> Quote {
+    Quote { class, top, bottom }
 }
 
 #[test]
 fn prices_tell_the_worked_examples(rt: HostRuntime) -> Result<(), Fail> {
-    tells(&rt, &SharePrice, &[(100, 3, None, 4, 0, 100, 4)])?;
+    let offer = ValidOffer::new(100, 3, None, 4)?;
+    let with_idle_frames = ValidOffer::new(100, 3, Some(2), 4)?;
+    tells(&rt, &SharePrice, &[(offer, told(0, 100, 4))]);
     tells(
         &rt,
         &ClassPrice::new(SharePrice),
-        &[(100, 3, None, 4, 3, 100, 4)],
-    )?;
+        &[(offer, told(3, 100, 4))],
+    );
     tells(
         &rt,
         &TaxedPrice::new(75)?,
         &[
-            (100, 3, Some(2), 4, 0, 2500, 250),
-            (100, 3, None, 4, 0, 2500, 100),
+            (with_idle_frames, told(0, 2500, 250)),
+            (offer, told(0, 2500, 100)),
         ],
-    )
+    );
+    Ok(())
 }
 
 #[test]
 fn prices_tell_offers_at_the_ends_of_the_ranges(rt: HostRuntime) -> Result<(), Fail> {
-    let most = Some(4_294_967_295);
+    let least = ValidOffer::new(1, 0, Some(0), 1)?;
+    let most = ValidOffer::new(1_000_000, 9, Some(4_294_967_295), 4_096)?;
     tells(
         &rt,
         &SharePrice,
-        &[
-            (1, 0, Some(0), 1, 0, 1, 1),
-            (1_000_000, 9, most, 4_096, 0, 1_000_000, 4_096),
-        ],
-    )?;
+        &[(least, told(0, 1, 1)), (most, told(0, 1_000_000, 4_096))],
+    );
     tells(
         &rt,
         &TaxedPrice::new(0)?,
         &[
-            (1, 0, Some(0), 1, 0, 100, 100),
-            (1_000_000, 9, most, 4_096, 0, 100_000_000, 409_600),
+            (least, told(0, 100, 100)),
+            (most, told(0, 100_000_000, 409_600)),
         ],
-    )?;
-    let highest = ClassPrice::new(TaxedPrice::new(99)?);
+    );
     tells(
         &rt,
-        &highest,
-        &[
-            (1, 0, Some(0), 1, 0, 1, 100),
-            (1_000_000, 9, most, 4_096, 9, 1_000_000, 4_096),
-        ],
-    )
+        &ClassPrice::new(TaxedPrice::new(99)?),
+        &[(least, told(0, 1, 100)), (most, told(9, 1_000_000, 4_096))],
+    );
+    Ok(())
 }
 
 #[test]
@@ -90,7 +83,7 @@ fn offers_out_of_range_are_refused_in_order(rt: HostRuntime) {
 
 #[test]
 fn bids_rank_by_minimum_then_exact_fraction_then_client(rt: HostRuntime) -> Result<(), Fail> {
-    let price: EitherPrice<SharePrice, TaxedPrice> = EitherPrice::First(SharePrice);
+    let price: Either<SharePrice, TaxedPrice> = Left(SharePrice);
     // client, minimum, shares and count, each ranked above the next
     let rows = [
         (9, 4, 1, 4),

@@ -1,5 +1,5 @@
 -- Words that are numbers in plain decimal, and words that are none.
-use Rattle.std.proofs.Common.{◌≡◌, ℕ, ◌<◌, ◌≤◌, Bool, true, false, ◌&&◌, ◌||◌, eqb, ltb, List, length, get_or, Ok, Err, decimal, Result, sym, ap, ◌∙◌, ⊎_elim, arith, length-drop}
+use Rattle.std.proofs.Common.{◌≡◌, ℕ, ◌<◌, ◌≤◌, Bool, false, ◌&&◌, ◌||◌, ◌⊎◌, eqb, ltb, List, length, get_or, Ok, Err, decimal, Result, sym, ap, ◌∙◌, ⊎_elim, arith, length-drop}
 use Rattle.std.proofs.lemmas.Fmt.{decimal_digit, digits_decimal, first_decimal, decimal-digits_value, parse-decimal}
 use Rattle.std.proofs.lemmas.Str.Parse.{IsNumeralModel, without_leading_plus_plus, digit_at, numerals_by_value, parse_plain, tells_digits}
 use Rattle.std.proofs.lemmas.Bool.{cases_eq, cases_lt}
@@ -15,13 +15,12 @@ abbrev padded : List ℕ → Bool
 padded w = ltb 1 (length w) && (eqb (get_or w 0 0) 43 || eqb (get_or w 0 0) 48)
 
 -- a longer word that begins with a plus or a zero is no number
-pub no_number : (w : List ℕ) → padded w ≡ true → NoNumber w
-no_number w h n e =
+pub no_number : (w : List ℕ) → 1 < length w → (get_or w 0 0 ≡ 43) ⊎ (get_or w 0 0 ≡ 48) → NoNumber w
+no_number w long h n e =
     let first = ap (λ l. get_or l 0 0) e.1 in
     let size = ap length e.1 in
-    let long : 1 < length w = grind (arith, nat_tests) in
     let digit = digit_at (decimal n) 0 (digits_decimal own n (omega arith)) (omega arith) in
-    let zero : get_or w 0 0 ≡ 48 = grind (arith, nat_tests) in
+    let zero : get_or w 0 0 ≡ 48 = grind arith in
     ⊎_elim
     (λ (some : 0 < n). omega (arith, first_decimal n some (omega arith)))
     (λ (none : n ≤ 0). omega (arith, ap length (decimal_digit n (omega arith))))

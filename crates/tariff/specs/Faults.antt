@@ -11,12 +11,10 @@ use Rattle.tariff.specs.declared.fault.Fault.TheVariants as fault
 use Rattle.tariff.specs.Requests.{Number, NoNumber, Estimate, NoEstimate, Asks}
 
 abbrev pub Misread : List ℕ → List ℕ → List ℕ → Fault → Type 0
-Misread u v w fault.Arguments = ⊥
 Misread u v w fault.Rate = NoNumber u
 Misread u v w fault.Active = ((r : ℕ) × Number u r) × NoEstimate v
 Misread u v w fault.Length = ((r : ℕ) × Number u r) × ((a : Option ℕ) × Estimate v a) × NoNumber w
-Misread u v w (fault.Refused r) = ⊥
-Misread u v w fault.Memory = ⊥
+Misread u v w _ = ⊥
 
 abbrev pub ReadsThree : List ℕ → List ℕ → List ℕ → Result Request Fault → Type 0
 ReadsThree u v w (Ok q) = Asks u v w q

@@ -1,3 +1,4 @@
 pub mod Requests
 pub mod Faults
+pub mod Refused
 pub mod Listings

@@ -7,6 +7,7 @@
 -- Answers     what is printed for what was read of the words
 -- Lists       what is printed for words
 use Rattle.std.specs.Prelude.{◌≡◌, ℕ, ◌+◌, List, [], ◌∷◌, ◌++◌, length, Ok, Err, string_bytes, decimal, Result, String}
+use Rattle.rules.specs.declared.refusal.Refusal.TheVariants.{RateOutOfRange, CountOutOfRange}
 use Rattle.rules.specs.Prices.{Sheet}
 use Rattle.rules.specs.Refusals.{First, Clear, sheet_entries}
 use Rattle.tariff.specs.declared.request.Request.{Request}
@@ -22,12 +23,10 @@ rows k [] = []
 rows k (b ∷ bs) = row k b ++ rows (k + 1) bs
 
 abbrev pub Unprinted : Request → ℕ → Fault → Type 0
-Unprinted q n fault.Arguments = ⊥
-Unprinted q n fault.Rate = ⊥
-Unprinted q n fault.Active = ⊥
-Unprinted q n fault.Length = ⊥
-Unprinted q n (fault.Refused r) = First (sheet_entries q.rate n) r
+Unprinted q n fault.HighRate = First (sheet_entries q.rate n) RateOutOfRange
+Unprinted q n fault.LongSheet = First (sheet_entries q.rate n) CountOutOfRange
 Unprinted q n fault.Memory = Clear (sheet_entries q.rate n)
+Unprinted q n _ = ⊥
 
 module _ {Z : Type 0} where
   abbrev pub Prints : Request → ℕ → Result (String Z) Fault → Type 0

@@ -8,23 +8,13 @@ use crate::request::Request;
 use price::tariff_sheet;
 use std::alloc::Global;
 
-/// Puts a line behind a text: a count of frames, a space, and the bottom there.
-fn add_row(text: &mut String, count: usize, bottom: u32) -> Result<(), Fault>
-    ensures { MatchResult result (λ _. string_bytes text.new ≡ string_bytes text.old ++ row count bottom) (λ f. f ≡ fault.Memory) }
-{
-    match writeln!(text, "{count} {bottom}") {
-        Ok(()) => Ok(()),
-        Err(_) => Err(Fault::Memory),
-    }
-}
-
-/// A line for each place of a sheet.
+/// A line for each place of a sheet: a count of frames, a space, and the bottom there.
 fn lines(heap: Global, sheet: &[u32]) -> Result<String, Fault>
     ensures { MatchResult result (λ text. string_bytes text ≡ rows 1 sheet.now) (λ f. f ≡ fault.Memory) }
 {
     let mut text = String::new(heap);
     for (i, bottom) in sheet.iter().enumerate() {
-        add_row(&mut text, i + 1, *bottom)?;
+        writeln!(text, "{} {bottom}", i + 1).map_err(|_| Fault::Memory)?;
     }
     Ok(text)
 }
@@ -33,10 +23,8 @@ fn lines(heap: Global, sheet: &[u32]) -> Result<String, Fault>
 fn sheet_text(heap: Global, request: Request, sheet: &mut [u32]) -> Result<String, Fault>
     ensures { Prints request (length sheet.old) result }
 {
-    match tariff_sheet(request.rate, request.active, sheet) {
-        Ok(()) => lines(heap, sheet),
-        Err(refusal) => Err(Fault::Refused(refusal)),
-    }
+    tariff_sheet(request.rate, request.active, sheet)?;
+    lines(heap, sheet)
 }
 
 /// The text that the program prints for its arguments, or why it prints none.
@@ -47,5 +35,5 @@ pub fn listing(heap: Global, words: &[String]) -> Result<String, Fault>
     // a longer sheet is cut to 4,097 places, which are refused alike
     let places = request.length.min(4_097) as usize;
     let mut sheet = [0; 4_097];
-    sheet_text(heap, request, &mut sheet[0..places])
+    sheet_text(heap, request, &mut sheet[..places])
 }

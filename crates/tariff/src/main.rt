@@ -12,9 +12,7 @@ use std::process::ExitCode;
 
 fn run(rt: &HostRuntime) -> anyhow::Result<()> {
     let heap = rt.alloc();
-    let mut args = env::args(rt)?;
-    let _program = args.next();
-    let words: Vec<String> = args.collect(heap)?;
+    let words: Vec<String> = env::args(rt)?.skip(1).collect(heap)?;
     rt.print(listing(heap, &words)?)?;
     Ok(())
 }

@@ -13,19 +13,13 @@ pub struct Request {
     pub length: u32,
 }
 
-/// Whether a longer word begins with a plus or a zero, as no plain number does.
-fn padded(word: &str) -> bool
-    ensures { result ≡ nat_lt 1 (length word.now) && (slice_index word.now 0 == 43 || slice_index word.now 0 == 48) }
-{
-    let bytes = word.as_bytes();
-    bytes.len() > 1 && (bytes[0] == b'+' || bytes[0] == b'0')
-}
-
 /// The number that a word is in plain decimal: digits alone, with no zero in front of others, and at most 32 bits.
+#[tactic(auto, using(crate::proofs::Figures::no_number, crate::proofs::Figures::reads_number))]
 fn number(word: &str) -> Option<u32>
     ensures { ReadsNumber word.now result }
 {
-    if padded(word) {
+    // a plus or a zero stands in front of more
+    if matches!(word.as_bytes(), [b'+' | b'0', _, ..]) {
         return None;
     }
     word.parse::<u32>().ok()
@@ -38,10 +32,7 @@ fn estimate(word: &str) -> Option<Option<u32>>
     if word == "-" {
         return Some(None);
     }
-    match number(word) {
-        Some(active) => Some(Some(active)),
-        None => None,
-    }
+    number(word).map(Some)
 }
 
 impl Request {
@@ -49,19 +40,10 @@ impl Request {
     fn of(rate: &str, active: &str, length: &str) -> Result<Request, Fault>
         ensures { ReadsThree rate.now active.now length.now result }
     {
-        let Some(rate) = number(rate) else {
-            return Err(Fault::Rate);
-        };
-        let Some(active) = estimate(active) else {
-            return Err(Fault::Active);
-        };
-        let Some(length) = number(length) else {
-            return Err(Fault::Length);
-        };
         Ok(Request {
-            rate,
-            active,
-            length,
+            rate: number(rate).ok_or(Fault::Rate)?,
+            active: estimate(active).ok_or(Fault::Active)?,
+            length: number(length).ok_or(Fault::Length)?,
         })
     }
 
@@ -69,9 +51,9 @@ impl Request {
     pub fn read(words: &[String]) -> Result<Request, Fault>
         ensures { Reads (map string_bytes words.now) result }
     {
-        if words.len() != 3 {
-            return Err(Fault::Arguments);
+        match words {
+            [rate, active, length] => Request::of(rate, active, length),
+            _ => Err(Fault::Arguments),
         }
-        Request::of(words[0].as_str(), words[1].as_str(), words[2].as_str())
     }
 }

@@ -1,8 +1,7 @@
 //! The clock.
 ghost use Rattle.std.specs.Prelude.{◌≡◌};
-ghost use Rattle.laws.specs.Calls.{SetClock};
-ghost use Rattle.pool.specs.View.{counted};
-ghost use Rattle.broker.specs.View.{Ended, Called};
+ghost use Rattle.laws.specs.Calls.{SetClock, Count, answered};
+ghost use Rattle.broker.specs.View.{Ended, Stepped};
 
 use super::Broker;
 use price::Price;
@@ -11,11 +10,11 @@ use rules::Refusal;
 impl<P: Price> Broker<P> {
     // Drops every estimate that ends by a tick, and answers how many.
     fn end_estimates(&mut self, tick: u32) -> u32
-        ensures { Ended P.Price.meaning tick self.old result self.new }
+        ensures { Ended tick self.old result self.new }
     {
         let mut ended: u32 = 0;
         while let Some(client) = self.pool.drop_ended(tick) {
-            self.relist(client);
+            self.payers.relist(&self.price, &self.pool, client);
             ended += 1;
         }
         ended
@@ -24,7 +23,7 @@ impl<P: Price> Broker<P> {
     /// Sets the clock to a tick, drops every estimate that ends by then, and answers how many. Any tick is refused while a
     /// passage is open, and then one before the clock.
     pub fn clock(&mut self, tick: u32) -> Result<u32, Refusal>
-        ensures { Called P.Price.meaning self.old (SetClock tick) (counted result) self.new }
+        ensures { Stepped self.old (SetClock tick) (answered Count result) self.new }
     {
         self.pool.clockable(tick)?;
         let ended = self.end_estimates(tick);

@@ -4,13 +4,13 @@ ghost use Rattle.rules.specs.Refusals.{Replies};
 ghost use Rattle.laws.specs.Broker.{holding as held, share_of};
 ghost use Rattle.laws.specs.Questions.{client_entries, price_entries, price_at, LowestIs};
 ghost use Rattle.pool.specs.View.{NextClient};
-ghost use Rattle.broker.specs.View.{view, Kept};
+ghost use Rattle.broker.specs.View.{meaning, view};
 
 use super::Broker;
 use price::{Price, ValidOffer};
-use rules::{Offer, Quote, Refusal};
+use rules::{Quote, Refusal};
 
-impl<P> Broker<P> {
+impl<P: Price> Broker<P> {
     /// How many frames a client holds. A client number outside 1 to 256 is refused, and then a client that is not admitted.
     pub fn holding(&self, client: u32) -> Result<u32, Refusal>
         ensures { Replies (client_entries (view self.now) client) (λ n. n ≡ held (view self.now) client) result }
@@ -39,13 +39,11 @@ impl<P> Broker<P> {
     {
         self.pool.free_frames()
     }
-}
 
-impl<P: Price> Broker<P> {
     /// What the price tells of a client at a count of frames, 1 to 4,096. A client number outside 1 to 256 is refused,
     /// then a count out of range, and then a client that is not admitted.
     pub fn price_at(&self, client: u32, count: u32) -> Result<Quote, Refusal>
-        ensures { Replies (price_entries (view self.now) client count) (λ q. q ≡ price_at (P.Price.meaning self.now.price) (view self.now) client count) result }
+        ensures { Replies (price_entries (view self.now) client count) (λ q. q ≡ price_at (meaning self.now) (view self.now) client count) result }
     {
         if client < 1 || client > 256 {
             return Err(Refusal::ClientOutOfRange);
@@ -54,22 +52,15 @@ impl<P: Price> Broker<P> {
             return Err(Refusal::CountOutOfRange);
         }
         let member = self.pool.member(client)?;
-        let offer = Offer {
-            shares: member.shares,
-            class: member.class,
-            active: member.active(),
-            count,
-        };
-        Ok(self.price.quote(ValidOffer::known(offer)))
+        let offer = ValidOffer::known(member.offer(count));
+        Ok(self.price.quote(offer))
     }
 
     /// The lowest payer: the client whose bid at its holding ranks lowest among all that hold more than their minimums.
     pub fn lowest_payer(&self) -> Option<u32>
-        ensures { Kept P.Price.meaning self.now → LowestIs (P.Price.meaning self.now.price) (view self.now) result }
+        ensures { LowestIs (meaning self.now) (view self.now) result }
     {
-        match self.payers.lowest() {
-            Some(payer) => Some(payer.client as u32),
-            None => None,
-        }
+        let payer = self.payers.lowest()?;
+        Some(payer.client)
     }
 }

@@ -2,14 +2,15 @@
 ghost use Rattle.std.specs.Prelude.{◌≡◌};
 ghost use Rattle.rules.specs.Refusals.{Replies};
 ghost use Rattle.laws.specs.Broker.{new_broker};
-ghost use Rattle.laws.specs.Calls.{Start, Admit, Deliver, admit_entries};
-ghost use Rattle.pool.specs.View.{view, done, Steps};
+ghost use Rattle.laws.specs.Calls.{Start, Admit, Deliver, Done, admit_entries, answered};
+ghost use Rattle.pool.specs.View.{view, Steps};
 
 use super::Pool;
-use crate::ends::Ends;
+use crate::ends::End;
 use crate::member::Member;
+use heap::IndexedHeap;
 use ledger::Ledger;
-use rules::{Refusal, SlipNumbers};
+use rules::{Admission, Refusal, SlipNumbers};
 
 impl Pool {
     /// A pool without frames and clients, at tick 0.
@@ -23,51 +24,47 @@ impl Pool {
             passage: None,
             members: [None; 256],
             ledger: Ledger::new(),
-            ends: Ends::new(),
+            ends: IndexedHeap::new(End { tick: 0 }),
         }
     }
 
     /// Gives a new pool its unit number, 1 to 999, and its frames, 1 to 4,096, all of them free. Numbers out of range
     /// are refused, and then a pool that has frames already.
     pub fn start(&mut self, unit: u32, frames: u32) -> Result<(), Refusal>
-        ensures { Steps self.old (Start unit frames) (done result) self.new }
+        ensures { Steps self.old (Start unit frames) (answered (λ _. Done) result) self.new }
     {
         if frames < 1 || frames > 4_096 || unit < 1 || unit > 999 {
             return Err(Refusal::PoolOutOfRange);
         }
-        match self.ledger.start(frames as u16) {
-            Ok(()) => {
-                self.unit = unit;
-                Ok(())
-            }
-            Err(_) => Err(Refusal::AlreadyStarted),
-        }
+        self.ledger
+            .start(frames as u16)
+            .map_err(|_| Refusal::AlreadyStarted)?;
+        self.unit = unit;
+        Ok(())
     }
 
     /// Closes the open passage, where these are the numbers of its slip.
     pub fn close(&mut self, slip: SlipNumbers) -> Result<(), Refusal>
-        ensures { Steps self.old (Deliver slip) (done result) self.new }
+        ensures { Steps self.old (Deliver slip) (answered (λ _. Done) result) self.new }
     {
-        if let Some(passage) = self.passage {
-            if passage == slip {
-                self.passage = None;
-                return Ok(());
-            }
+        if self.passage != Some(slip) {
+            return Err(Refusal::NotTheOpenSlip);
         }
-        Err(Refusal::NotTheOpenSlip)
+        self.passage = None;
+        Ok(())
     }
 
-    // Whether a client with these terms may be admitted.
-    fn admissible(
-        &self,
-        client: u32,
-        shares: u32,
-        class: u32,
-        minimum: u32,
-        maximum: u32,
-    ) -> Result<(), Refusal>
-        ensures { Replies (admit_entries (view self.now) client shares class minimum maximum) (λ _. Unit {0}) result }
+    // Whether an admission may be granted.
+    fn admissible(&self, asked: Admission) -> Result<(), Refusal>
+        ensures { Replies (admit_entries (view self.now) asked) (λ _. Unit {0}) result }
     {
+        let Admission {
+            client,
+            shares,
+            class,
+            minimum,
+            maximum,
+        } = asked;
         if client < 1 || client > 256 {
             return Err(Refusal::ClientOutOfRange);
         }
@@ -83,8 +80,7 @@ impl Pool {
         if self.passage.is_some() {
             return Err(Refusal::PassageOpen);
         }
-        let noted = self.members[client as usize - 1];
-        if noted.is_some() {
+        if self.is_admitted(client) {
             return Err(Refusal::AlreadyAdmitted);
         }
         let frames = self.ledger.frames() as u32;
@@ -99,22 +95,15 @@ impl Pool {
 
     /// Admits a client, 1 to 256, under its terms: shares of 1 to 1,000,000, a class of 0 to 9, a minimum and a maximum
     /// of frames. It starts with no frame and no estimate.
-    pub fn admit(
-        &mut self,
-        client: u32,
-        shares: u32,
-        class: u32,
-        minimum: u32,
-        maximum: u32,
-    ) -> Result<(), Refusal>
-        ensures { Steps self.old (Admit client shares class minimum maximum) (done result) self.new }
+    pub fn admit(&mut self, asked: Admission) -> Result<(), Refusal>
+        ensures { Steps self.old (Admit asked) (answered (λ _. Done) result) self.new }
     {
-        self.admissible(client, shares, class, minimum, maximum)?;
-        self.members[client as usize - 1] = Some(Member {
-            shares,
-            class: class as u8,
-            minimum,
-            maximum,
+        self.admissible(asked)?;
+        self.members[asked.client as usize - 1] = Some(Member {
+            shares: asked.shares,
+            class: asked.class as u8,
+            minimum: asked.minimum,
+            maximum: asked.maximum,
             estimate: None,
         });
         Ok(())

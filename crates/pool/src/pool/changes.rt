@@ -2,10 +2,11 @@
 ghost use Rattle.std.specs.Prelude.{◌≡◌, Some};
 ghost use Rattle.rules.specs.Refusals.{Replies};
 ghost use Rattle.laws.specs.ByNumber.{by_number};
-ghost use Rattle.laws.specs.Calls.{HandBack, Leave, SetEstimate, caller_entries, estimate_entries};
-ghost use Rattle.pool.specs.View.{view, done, handed, counted, Steps};
+ghost use Rattle.laws.specs.Calls.{HandBack, Leave, SetEstimate, Done, Frame, Count, caller_entries, estimate_entries, answered};
+ghost use Rattle.pool.specs.View.{view, Steps};
 
 use super::Pool;
+use crate::ends::End;
 use crate::member::Member;
 use rules::{Estimate, Refusal};
 
@@ -26,19 +27,20 @@ impl Pool {
     /// Hands the top frame of a client's stack back to the free frames, and answers it. A client number outside 1 to 256
     /// is refused, then any client while a passage is open, one that is not admitted, and one that holds no frame.
     pub fn hand_back(&mut self, client: u32) -> Result<u32, Refusal>
-        ensures { Steps self.old (HandBack client) (handed result) self.new }
+        ensures { Steps self.old (HandBack client) (answered Frame result) self.new }
     {
         self.caller(client)?;
-        match self.ledger.move_top(client as usize, 0) {
-            Some(frame) => Ok(frame as u32),
-            None => Err(Refusal::HoldsNoFrame),
-        }
+        let frame = self
+            .ledger
+            .move_top(client as usize, 0)
+            .ok_or(Refusal::HoldsNoFrame)?;
+        Ok(frame as u32)
     }
 
     /// Lets a client go and frees its frames, the top one first, and answers how many. A client number outside 1 to 256 is
     /// refused, then any client while a passage is open, and one that is not admitted.
     pub fn leave(&mut self, client: u32) -> Result<u32, Refusal>
-        ensures { Steps self.old (Leave client) (counted result) self.new }
+        ensures { Steps self.old (Leave client) (answered Count result) self.new }
     {
         self.caller(client)?;
         let frames = self.ledger.release(client as usize);
@@ -48,14 +50,14 @@ impl Pool {
     }
 
     // What is noted of a client whose estimate may be set.
-    fn estimable(&self, client: u32, active: u32, end: u32) -> Result<Member, Refusal>
-        ensures { Replies (estimate_entries (view self.now) client active end) (λ x. by_number self.now.members client ≡ Some x) result }
+    fn estimable(&self, client: u32, estimate: Estimate) -> Result<Member, Refusal>
+        ensures { Replies (estimate_entries (view self.now) client estimate) (λ x. by_number self.now.members client ≡ Some x) result }
     {
         let member = self.caller(client)?;
-        if active > self.ledger.frames() as u32 {
+        if estimate.active > self.ledger.frames() as u32 {
             return Err(Refusal::ActiveAboveFrames);
         }
-        if end <= self.tick {
+        if estimate.end <= self.tick {
             return Err(Refusal::EndNotAfterClock);
         }
         Ok(member)
@@ -64,15 +66,13 @@ impl Pool {
     /// Notes how many frames a client says it uses, and the tick at which that ends, in place of an earlier estimate. A
     /// client number outside 1 to 256 is refused, then any client while a passage is open, one that is not admitted, an
     /// active count above the frames, and an end at or before the clock.
-    pub fn estimate(&mut self, client: u32, active: u32, end: u32) -> Result<(), Refusal>
-        ensures { Steps self.old (SetEstimate client active end) (done result) self.new }
+    pub fn estimate(&mut self, client: u32, estimate: Estimate) -> Result<(), Refusal>
+        ensures { Steps self.old (SetEstimate client estimate) (answered (λ _. Done) result) self.new }
     {
-        let member = self.estimable(client, active, end)?;
-        self.members[client as usize - 1] = Some(Member {
-            estimate: Some(Estimate { active, end }),
-            ..member
-        });
-        self.ends.put(client as usize, end);
+        let mut member = self.estimable(client, estimate)?;
+        member.estimate = Some(estimate);
+        self.members[client as usize - 1] = Some(member);
+        self.ends.put(client as usize, End { tick: estimate.end });
         Ok(())
     }
 }

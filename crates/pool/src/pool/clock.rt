@@ -28,15 +28,11 @@ impl Pool {
     fn first_ended(&self, tick: u32) -> Option<(usize, Member)>
         ensures { MatchOption result ((c : ℕ) → ends tick ((view self.now).clients c) ≡ 0) (λ p. Numbered p.0 × (by_number self.now.members p.0 ≡ Some p.1) × (ended tick p.1.estimate ≡ 1)) }
     {
-        let Some((client, end)) = self.ends.first() else {
-            return None;
-        };
-        if tick < end {
+        let (client, end) = self.ends.root()?;
+        if tick < end.tick {
             return None;
         }
-        let Some(member) = self.members[client - 1] else {
-            return None;
-        };
+        let member = self.members[client - 1]?;
         Some((client, member))
     }
 
@@ -44,13 +40,9 @@ impl Pool {
     pub fn drop_ended(&mut self, tick: u32) -> Option<u32>
         ensures { Drops tick (view self.old) result (view self.new) }
     {
-        let Some((client, member)) = self.first_ended(tick) else {
-            return None;
-        };
-        self.members[client - 1] = Some(Member {
-            estimate: None,
-            ..member
-        });
+        let (client, mut member) = self.first_ended(tick)?;
+        member.estimate = None;
+        self.members[client - 1] = Some(member);
         self.ends.take(client);
         Some(client as u32)
     }

@@ -42,9 +42,7 @@ impl Pool {
         ensures grants { Grants (view self.old) client from result (view self.new) }
         ensures opens { Opens from result (view self.new) }
     {
-        let Some(frame) = self.ledger.move_top(from as usize, client as usize) else {
-            return None;
-        };
+        let frame = self.ledger.move_top(from as usize, client as usize)?;
         let slip = self.next_slip(client, frame as u32, from);
         self.asks = slip.asks;
         self.passage = Some(slip);

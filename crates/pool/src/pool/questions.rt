@@ -1,7 +1,7 @@
 //! The questions, which change nothing and are answered also while a passage is open.
-ghost use Rattle.std.specs.Prelude.{◌≡◌, ◌*◌, ◌^◌, ◌≤◌, length, Some};
+ghost use Rattle.std.specs.Prelude.{◌≡◌, ◌*◌, ◌^◌, ◌≤◌, length, is_some, Some};
 ghost use Rattle.rules.specs.Refusals.{Replies};
-ghost use Rattle.laws.specs.ByNumber.{total, by_number};
+ghost use Rattle.laws.specs.ByNumber.{total, Numbered, by_number};
 ghost use Rattle.laws.specs.Division.{minimum_of};
 ghost use Rattle.laws.specs.Broker.{holding as held, present, all_shares, share_of};
 ghost use Rattle.laws.specs.Questions.{client_entries};
@@ -19,10 +19,15 @@ impl Pool {
         if client < 1 || client > 256 {
             return Err(Refusal::ClientOutOfRange);
         }
-        let Some(member) = self.members[client as usize - 1] else {
-            return Err(Refusal::NotAdmitted);
-        };
-        Ok(member)
+        self.members[client as usize - 1].ok_or(Refusal::NotAdmitted)
+    }
+
+    // Whether a client with this number is admitted.
+    pub(crate) fn is_admitted(&self, client: u32) -> bool
+        requires { Numbered client }
+        ensures { result ≡ is_some (by_number self.now.members client) }
+    {
+        self.members[client as usize - 1].is_some()
     }
 
     /// How many frames lie in a client's stack, and for 0 in the free stack.
@@ -48,11 +53,9 @@ impl Pool {
     {
         let mut shares: u64 = 0;
         let mut minimums: u64 = 0;
-        for place in self.members.iter() {
-            if let Some(member) = place {
-                shares += member.shares as u64;
-                minimums += member.minimum as u64;
-            }
+        for member in self.members.iter().flatten() {
+            shares += member.shares as u64;
+            minimums += member.minimum as u64;
         }
         Totals { shares, minimums }
     }
@@ -78,12 +81,8 @@ impl Pool {
     pub fn next_client(&self, after: u32) -> Option<u32>
         ensures { NextClient (view self.now) after result }
     {
-        for place in after as usize..256 {
-            let noted = self.members[place];
-            if noted.is_some() {
-                return Some(place as u32 + 1);
-            }
-        }
-        None
+        (after..256)
+            .find(|&place| self.is_admitted(place + 1))
+            .map(|place| place + 1)
     }
 }

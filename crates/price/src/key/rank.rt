@@ -27,33 +27,21 @@ impl Ranked {
         self.count <= self.minimum
     }
 
-    /// The five tests, of which the first that separates the two bids decides. Fractions are compared by their cross
-    /// products, which fit 64 bits.
-    pub(crate) fn wins(&self, other: &Ranked) -> bool
-        ensures { result ≡ outranks self.now other.now }
-    {
-        if self.within() != other.within() {
-            return self.within();
-        }
-        if self.quote.class != other.quote.class {
-            return self.quote.class > other.quote.class;
-        }
-        let mine = self.quote.top as u64 * other.quote.bottom as u64;
-        let theirs = other.quote.top as u64 * self.quote.bottom as u64;
-        if mine != theirs {
-            return mine > theirs;
-        }
-        if self.client != other.client {
-            return self.client < other.client;
-        }
-        self.count < other.count
-    }
-
-    /// Whether this bid ranks above another.
+    /// Whether this bid ranks above another: five tests, of which the first that separates the two decides. Fractions are
+    /// compared by their cross products, which fit 64 bits.
+    #[tactic(auto, using(crate::proofs::Ranks::first_decides, crate::proofs::Ranks::ranks_bids))]
     pub fn ranks_above(&self, other: &Ranked) -> bool
         ensures keys { result ≡ outranks self.now other.now }
         ensures bids { RanksBids self.now other.now result }
     {
-        self.wins(other)
+        let mine = self.quote.top as u64 * other.quote.bottom as u64;
+        let theirs = other.quote.top as u64 * self.quote.bottom as u64;
+        self.within()
+            .cmp(&other.within())
+            .then(self.quote.class.cmp(&other.quote.class))
+            .then(mine.cmp(&theirs))
+            .then(other.client.cmp(&self.client))
+            .then(other.count.cmp(&self.count))
+            .is_gt()
     }
 }

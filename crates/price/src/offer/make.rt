@@ -17,13 +17,13 @@ impl ValidOffer {
     ) -> Result<ValidOffer, Refusal>
         ensures { Replies (offer_entries shares class count) (λ o. o.offer ≡ record { shares = shares; class = class; active = active; count = count }) result }
     {
-        if shares < 1 || shares > 1_000_000 {
+        if !(1..=1_000_000).contains(&shares) {
             return Err(Refusal::SharesOutOfRange);
         }
         if class > 9 {
             return Err(Refusal::ClassOutOfRange);
         }
-        if count < 1 || count > 4_096 {
+        if !(1..=4_096).contains(&count) {
             return Err(Refusal::CountOutOfRange);
         }
         Ok(ValidOffer::known(Offer {

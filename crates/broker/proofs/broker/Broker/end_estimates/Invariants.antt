@@ -4,7 +4,7 @@ use Rattle.broker.specs.View.{view, Dropping}
 use Rattle.broker.proofs.broker.Broker.end_estimates.Given as goal
 
 abbrev pub invariant-loop-client : goal.invariant-loop-client
-invariant-loop-client g l = Dropping g.P.Price.meaning l.tick l.initial.self l.ended l.self
+invariant-loop-client g l = Dropping l.tick l.initial.self l.ended l.self
 
 abbrev pub decreases-loop-client : goal.decreases-loop-client
 decreases-loop-client g l = total (λ c. ends l.tick ((view l.self).clients c))

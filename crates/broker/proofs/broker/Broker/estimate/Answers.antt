@@ -1,21 +1,23 @@
+use Rattle.std.proofs.Common.{refl}
 use Rattle.std.proofs.lemmas.Result.{err_from_is_err_and}
-use Rattle.pool.specs.View as pool
-use Rattle.broker.specs.View.{view}
-use Rattle.broker.proofs.Others.{step_others}
-use Rattle.broker.proofs.Steps.{refused_called, listed_called, unlooked}
+use Rattle.broker.specs.View.{meaning}
+use Rattle.broker.proofs.Others.{refused_listed, spared_but}
+use Rattle.broker.proofs.Steps.{stepped}
 use Rattle.broker.proofs.broker.Broker.estimate.Goals as goal
+
+pub invariant_of-self : goal.invariant_of-self
+invariant_of-self g c = let b = c.args.self.now in record { kept = refused_listed b (c.in_err-estimate.ensures (meaning b)) }
 
 pub returns-in_err-estimate : goal.returns-in_err-estimate
 returns-in_err-estimate g c =
     let b = c.args.self.now in
     let p = err_from_is_err_and c.from_residual.result c.from_residual.ensures.1 in
-    rw (p.1, p.2) (let call = refused_called g.P.Price.meaning g.P.Price.lawful b c.estimate.new.self (c.in_err-estimate.ensures (g.P.Price.meaning b.price)) in record { step = unlooked (λ none. none) call; kept = call.kept })
+    rw (p.1, p.2) (stepped b _ (c.in_err-estimate.ensures (meaning b)) refl)
+
+pub invariant_of-self-2 : goal.invariant_of-self-2
+invariant_of-self-2 g c =
+    let b = c.args.self.now in
+    record { kept = spared_but b c.args.client c.relist.new.self (c.in_ok-estimate.ensures (meaning b)) (λ d ne. ne) c.relist.ensures }
 
 pub returns : goal.returns
-returns g c =
-    let b = c.args.self.now in
-    let m = g.P.Price.meaning b.price in
-    let q = c.estimate.new.self in
-    let step = c.in_ok-estimate.ensures m in
-    let call = listed_called g.P.Price.meaning g.P.Price.lawful b q step c.args.client c.relist.new.self (step_others m (view b) _ _ (pool.view q) step) c.relist.ensures in
-    record { step = unlooked (λ none. none) call; kept = call.kept }
+returns g c = let b = c.args.self.now in stepped b _ (c.in_ok-estimate.ensures (meaning b)) refl

@@ -1,14 +1,15 @@
 use Rattle.broker.specs.Bids.{listed}
-use Rattle.broker.specs.View.{view}
-use Rattle.broker.proofs.Bids.{lowest_some, lowest_none}
+use Rattle.broker.specs.View.{meaning, view}
+use Rattle.broker.proofs.Bids.{nobody_pays, lowest_is}
 use Rattle.broker.proofs.broker.Broker.lowest_payer.Goals as goal
 
-pub returns-in-Some : goal.returns-in-Some
-returns-in-Some g c =
+pub returns-in_err-payer : goal.returns-in_err-payer
+returns-in_err-payer g c =
     let b = c.args.self.now in
-    λ kept. lowest_some (g.P.Price.meaning b.price) (view b) (listed b.payers) kept c.in-Some.payer.client c.in-Some.payer.bid c.in-Some.ensures.1
+    rw c.from_residual.ensures (nobody_pays (meaning b) (view b) (listed b.payers) b.kept c.in_err-payer.ensures)
 
-pub returns-in-None : goal.returns-in-None
-returns-in-None g c =
+pub returns : goal.returns
+returns g c =
     let b = c.args.self.now in
-    λ kept. lowest_none (g.P.Price.meaning b.price) (view b) (listed b.payers) kept c.in-None.ensures
+    let lowest = c.in_ok-payer.payer in
+    lowest_is (meaning b) (view b) (listed b.payers) b.kept lowest.client lowest.bid c.in_ok-payer.ensures

@@ -1,11 +1,11 @@
-use Rattle.std.proofs.Common.{suc, None, refl, ap}
-use Rattle.pool.specs.Members.{in_ranges}
-use Rattle.pool.proofs.Starts.{same_at, new_view}
+use Rattle.std.proofs.Common.{suc, refl, ap}
+use Rattle.std.specs.Option.{option_map}
+use Rattle.pool.proofs.Starts.{new_view}
 use Rattle.pool.proofs.Noted.{new_noted}
 use Rattle.pool.proofs.pool.Pool.new.Goals as goal
 
 pub invariant_of-result : goal.invariant_of-result
-invariant_of-result c = record { places = refl; ranges = λ i. ap in_ranges (same_at 256 i None); stray = λ i _. c.new.ensures.stacks (suc i); noted = new_noted 256 c.new-2.result c.new-2.ensures }
+invariant_of-result c = record { places = refl; stray = λ i _. c.new.ensures.stacks (suc i); noted = new_noted 256 _ (λ d. ap (option_map (λ e. e.tick)) (c.new-2.ensures d)) }
 
 pub returns : goal.returns
 returns c = new_view c.new.result c.new.ensures.frames c.new.ensures.stacks

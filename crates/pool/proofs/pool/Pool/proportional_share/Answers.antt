@@ -1,22 +1,12 @@
 use Rattle.std.proofs.Common.{arith}
 use Rattle.laws.proofs.Kept.{inside}
 use Rattle.ledger.specs.Ledgers.{stack_of}
-use Rattle.ledger.proofs.Ledgers.{few_frames}
-use Rattle.pool.proofs.Tables.{small_share, noted_ranges, shares_among}
+use Rattle.pool.proofs.Tables.{shares_among}
 use Rattle.pool.proofs.pool.Pool.proportional_share.Goals as goal
 
 pub nonzero_div-result : goal.nonzero_div-result
 nonzero_div-result c =
     let b = c.args.self.now in
     let found = c.in_ok-member.ensures in
-    let some = noted_ranges b.members b.ranges c.args.client c.in_ok-member.member found.1 in
     let among = shares_among b.members (stack_of b.ledger) c.args.client c.in_ok-member.member (inside 1 256 c.args.client found.0.0) found.1 in
-    omega (arith, some, among, c.totals-all.ensures.shares)
-
-pub overflow_cast-result-3 : goal.overflow_cast-result-3
-overflow_cast-result-3 c =
-    let b = c.args.self.now in
-    let found = c.in_ok-member.ensures in
-    let some = noted_ranges b.members b.ranges c.args.client c.in_ok-member.member found.1 in
-    let small = small_share c.frames.result c.in_ok-member.member.shares c.totals-all.result.shares (omega (arith, few_frames b.ledger, c.frames.ensures)) some.1 in
-    omega (arith, small)
+    omega (arith, c.in_ok-member.member.some_shares, among, c.totals-all.ensures.shares)

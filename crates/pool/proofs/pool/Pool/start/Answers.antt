@@ -1,22 +1,24 @@
-use Rattle.std.proofs.Common.{ap, inl, inr, arith, rules}
+use Rattle.std.proofs.Common.{◌≡◌, ap, inl, inr, arith, rules}
+use Rattle.rules.specs.declared.refusal.Refusal.TheVariants.{AlreadyStarted}
 use Rattle.laws.specs.Calls.{refused}
-use Rattle.pool.proofs.Views.{seen, refused_step}
-use Rattle.pool.proofs.Starts.{start_step}
+use Rattle.pool.proofs.Views.{seen, refused_exit}
+use Rattle.pool.proofs.Starts.{start_step, at_ok, at_err}
 use Rattle.pool.proofs.pool.Pool.start.Goals as goal
 
 pub returns-then-frames-lt1 : goal.returns-then-frames-lt1
 returns-then-frames-lt1 c = λ m. (refused (search (inl, inr, arith)))
 
-pub returns-in-Ok : goal.returns-in-Ok
-returns-in-Ok c =
+pub returns-in_err-map_err : goal.returns-in_err-map_err
+returns-in_err-map_err c =
     let b = c.args.self.now in
-    let s = c.in-Ok.ensures in
-    let none = s.none_before in
-    λ m. (start_step _ b.unit b.tick b.asks b.passage b.members b.ledger c.start.new.self c.args.unit c.args.frames s (search (rules, arith)))
+    let e = at_err _ _ _ c.in_err-map_err.ensures.variant c.start.ensures in
+    let told : c.in_err-map_err.field-0.0 ≡ AlreadyStarted = search rules in
+    let has = e.1.1 (omega arith) in
+    λ m. (refused_exit _ _ c.from_residual.result c.from_residual.ensures.1 (ap (seen b.unit b.tick b.asks b.passage b.members) e.1.0) (rw told (search (inl, inr, rules, arith))))
 
-pub returns-in-Err : goal.returns-in-Err
-returns-in-Err c =
+pub returns : goal.returns
+returns c =
     let b = c.args.self.now in
-    let e = c.in-Err.ensures in
-    let has = e.1 (omega arith) in
-    λ m. (refused_step _ (ap (seen b.unit b.tick b.asks b.passage b.members) e.0) (search (inl, inr, rules, arith)))
+    let s = at_ok _ _ _ c.in_ok-map_err.ensures.variant c.start.ensures in
+    let none = s.1.none_before in
+    λ m. (start_step _ b.unit b.tick b.asks b.passage b.members b.ledger c.start.new.self c.args.unit c.args.frames s.1 (search (rules, arith)))

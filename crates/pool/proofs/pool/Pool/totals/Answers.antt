@@ -1,35 +1,42 @@
-use Rattle.std.proofs.Common.{◌≤◌, length, None, sum_by, sym, ap, ◌∙◌, arith}
-use Rattle.std.proofs.lemmas.List.{take_all}
-use Rattle.std.proofs.lemmas.List.Sums.{sum_by_more}
+use Rattle.std.proofs.Common.{sym, ap, ◌∙◌, sum_by, arith}
+use Rattle.std.specs.Option.{option_to_list}
+use Rattle.std.proofs.lemmas.Iterator.{YieldsList-from_slice}
+use Rattle.std.proofs.lemmas.Iterator.Adapters.{YieldsList-from_flatten}
+use Rattle.std.proofs.lemmas.Iterator.Consumers.{YieldsList-at, YieldsList-turn, YieldsList-end}
+use Rattle.std.proofs.lemmas.List.{length_push}
+use Rattle.std.proofs.lemmas.List.Sums.{sum_by_push}
 use Rattle.ledger.specs.Ledgers.{stack_of}
-use Rattle.pool.proofs.Totals.{noted_shares, noted_minimum, all_noted_shares, all_noted_minimums}
+use Rattle.pool.proofs.Totals.{one_or_none, few_admitted, sum_now, all_shares_are, all_minimums_are}
 use Rattle.pool.proofs.pool.Pool.totals.Goals as goal
-use Rattle.pool.proofs.pool.Pool.totals.Goals.{in-Some, in_default}
 
-pub loop-place-preserved : goal.loop-place-preserved
-loop-place-preserved c =
+pub loop-member-preserved : goal.loop-member-preserved
+loop-member-preserved c =
     let b = c.args.self.now in
-    let n = b.places in
-    let shares = sum_by_more noted_shares b.members c.loop-place.place-index None (omega arith) in
-    let minimums = sum_by_more noted_minimum b.members c.loop-place.place-index None (omega arith) in
-    elim c.match-place.branch [
-      | in-Some w ↦
-          let e = ap noted_shares w.in-Some.is in
-          let f = ap noted_minimum w.in-Some.is in
-          (omega (arith, shares, e, w.shares-is), omega (arith, minimums, f, w.minimums-is), omega (arith, w.shares-is), omega (arith, w.minimums-is))
-      | in_default w ↦
-          let e = ap noted_shares w.in_default.is in
-          let f = ap noted_minimum w.in_default.is in
-          (omega (arith, shares, e, w.shares-is), omega (arith, minimums, f, w.minimums-is), omega (arith, w.shares-is), omega (arith, w.minimums-is))
-    ]
+    let road = YieldsList-at c.into_iter-member-iterator.ensures.into_iter_gives
+    (YieldsList-from_flatten {v = λ y. y.now} _ _ (λ y. y.now) option_to_list (λ x j h. one_or_none x.now h.0 h.1)
+    (YieldsList-at c.flatten-member-items.ensures.source (YieldsList-from_slice b.members (cc)))
+    c.flatten-member-items.ensures.front c.flatten-member-items.ensures.back c.flatten-member-items.ensures.done) in
+    let turn = YieldsList-turn road c.loop-member.yielded _ c.loop-member.yielded_by _ _ c.in-Some.member c.in-Some.is c.next.ensures.steps in
+    let inv = c.loop-member.invariant in
+    let n = length_push c.loop-member.yielded c.in-Some.member in (
+      omega (arith, inv.0, sum_by_push (λ y. y.now.shares) c.loop-member.yielded c.in-Some.member),
+      omega (arith, inv.1, sum_by_push (λ y. y.now.minimum) c.loop-member.yielded c.in-Some.member),
+      omega (arith, n, inv.2),
+      omega (arith, n, inv.3),
+      omega (arith, n, turn.0, few_admitted b.members, b.places),
+    )
 
 pub returns : goal.returns
 returns c =
     let b = c.args.self.now in
-    let h : length b.members ≤ c.loop-place.place-index = omega (arith, b.places) in
-    let all = take_all c.loop-place.place-index b.members h in
+    let road = YieldsList-at c.into_iter-member-iterator.ensures.into_iter_gives
+    (YieldsList-from_flatten {v = λ y. y.now} _ _ (λ y. y.now) option_to_list (λ x j h. one_or_none x.now h.0 h.1)
+    (YieldsList-at c.flatten-member-items.ensures.source (YieldsList-from_slice b.members (cc)))
+    c.flatten-member-items.ensures.front c.flatten-member-items.ensures.back c.flatten-member-items.ensures.done) in
+    let all = YieldsList-end road c.loop-member.yielded _ c.loop-member.yielded_by _ _ c.in-None.is c.next.ensures.steps in
+    let inv = c.loop-member.invariant in
     record {
-      shares = c.loop-place.invariant.0 ∙ (ap (sum_by noted_shares) all ∙ sym (all_noted_shares b.members (stack_of b.ledger) b.places));
-      minimums = c.loop-place.invariant.1 ∙ (ap (sum_by noted_minimum) all ∙ sym (all_noted_minimums b.members (stack_of b.ledger) b.places));
-      bounded = omega (arith, c.loop-place.invariant.3, b.places);
+      shares = inv.0 ∙ (sum_now (λ x. x.shares) c.loop-member.yielded ∙ (ap (sum_by (λ x. x.shares)) all.0 ∙ sym (all_shares_are b.members (stack_of b.ledger) b.places)));
+      minimums = inv.1 ∙ (sum_now (λ x. x.minimum) c.loop-member.yielded ∙ (ap (sum_by (λ x. x.minimum)) all.0 ∙ sym (all_minimums_are b.members (stack_of b.ledger) b.places)));
+      bounded = omega (arith, inv);
     }

@@ -1,10 +1,10 @@
-use Rattle.std.proofs.Common.{◌≡◌, ◌*◌, ◌^◌, ◌≤◌, take, sum_by}
-use Rattle.pool.proofs.Totals.{noted_shares, noted_minimum}
+use Rattle.std.proofs.Common.{◌≡◌, ◌*◌, ◌^◌, ◌≤◌, length, sum_by}
 use Rattle.pool.proofs.pool.Pool.totals.Given as goal
 
-abbrev pub invariant-loop-place : goal.invariant-loop-place
-invariant-loop-place l =
-    (l.shares ≡ sum_by noted_shares (take l.place-index l.self.members))
-    × (l.minimums ≡ sum_by noted_minimum (take l.place-index l.self.members))
-    × (l.shares ≤ 2 ^ 32 * l.place-index)
-    × (l.minimums ≤ 2 ^ 32 * l.place-index)
+abbrev pub invariant-loop-member : goal.invariant-loop-member
+invariant-loop-member l =
+    (l.shares ≡ sum_by (λ y. y.now.shares) l.yielded)
+    × (l.minimums ≡ sum_by (λ y. y.now.minimum) l.yielded)
+    × (l.shares ≤ 2 ^ 32 * length l.yielded)
+    × (l.minimums ≤ 2 ^ 32 * length l.yielded)
+    × (length l.yielded ≤ 256)

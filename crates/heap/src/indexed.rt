@@ -1,0 +1,56 @@
+//! A heap that keeps its records and its count, for a caller that lends them to nobody else.
+ghost use Rattle.std.specs.Prelude.{◌≡◌, ℕ, ◌<◌, Some, None, MatchOption, nat_eq};
+ghost use Rattle.std.specs.Map.{update};
+ghost use Rattle.heap.specs.Heaps.{Heap, Least};
+
+use super::{Order, Record};
+
+/// A heap of the owners below N, in fixed memory: a map from owners to keys that answers an owner whose key no other
+/// precedes.
+#[derive(Drop)]
+pub struct IndexedHeap<K: Order, const N: usize> {
+    records: [Record<K>; N],
+    count: usize,
+    ghost heaped: { Heap K.Order.leads records count },
+}
+
+impl<K: Order + Copy, const N: usize> IndexedHeap<K, N> {
+    ghost use Rattle.heap.specs.Indexed.{keys_in};
+
+    /// Nobody is in yet. Each record needs a key from the start; this one is never answered.
+    pub fn new(unused: K) -> IndexedHeap<K, N>
+        ensures { (o : ℕ) → keys_in result o ≡ None }
+    {
+        let record = Record {
+            key: unused,
+            owner: 0,
+            place: 0,
+        };
+        IndexedHeap {
+            records: [record; N],
+            count: 0,
+        }
+    }
+
+    /// Gives an owner this key, whether or not it was in.
+    pub fn put(&mut self, owner: usize, key: K)
+        requires { owner < N }
+        ensures { (o : ℕ) → keys_in self.new o ≡ update nat_eq (keys_in self.old) owner (Some key) o }
+    {
+        self.count = super::put(&mut self.records, self.count, owner, key);
+    }
+
+    /// Takes an owner out, if it is in.
+    pub fn take(&mut self, owner: usize)
+        ensures { (o : ℕ) → keys_in self.new o ≡ update nat_eq (keys_in self.old) owner None o }
+    {
+        self.count = super::take(&mut self.records, self.count, owner);
+    }
+
+    /// An owner whose key no key in the heap precedes, with that key, or none where nobody is in.
+    pub fn root(&self) -> Option<(usize, &K)>
+        ensures { MatchOption result ((o : ℕ) → keys_in self.now o ≡ None) (λ p. (p.0 < N) × Least K.Order.leads (keys_in self.now) p.0 p.1.now) }
+    {
+        super::root(&self.records, self.count)
+    }
+}
