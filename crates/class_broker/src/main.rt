@@ -12,6 +12,6 @@ const RATE: u32 = 75;
 fn main(rt: HostRuntime) -> anyhow::Result<()> {
     let price = ClassPrice::new(TaxedPrice::new(RATE).unwrap());
     let mut out = BufWriter::new(rt.alloc(), rt.stdout())?;
-    serve(price, rt.alloc(), &mut rt.stdin(), &mut out)?;
+    serve(price, rt.alloc(), rt.stdin(), &mut out)?;
     Ok(())
 }

@@ -8,7 +8,7 @@ mod week;
 
 use broker::Broker;
 use play::{play_all, play_passage, settle};
-use price::{ClassPrice, EitherPrice, Price, SharePrice, TaxedPrice};
+use price::{ClassPrice, Price, SharePrice, TaxedPrice};
 use rules::Call;
 use show::show_rest;
 use std::io;
@@ -39,12 +39,11 @@ fn play_day<P: Price, W: Write>(
 
 fn main(rt: HostRuntime) -> anyhow::Result<()> {
     let taxed = TaxedPrice::new(75).unwrap();
-    let share = EitherPrice::First(SharePrice);
-    let classed = EitherPrice::Second(EitherPrice::Second(ClassPrice::new(taxed)));
+    let classed = ClassPrice::new(taxed);
     let mut brokers = [
-        Broker::new(share),
-        Broker::new(EitherPrice::Second(EitherPrice::First(taxed))),
-        Broker::new(classed),
+        Broker::new(&SharePrice as &dyn Price),
+        Broker::new(&taxed),
+        Broker::new(&classed),
     ];
     let mut out = BufWriter::new(rt.alloc(), rt.stdout())?;
     writeln!(

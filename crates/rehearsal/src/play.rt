@@ -3,18 +3,21 @@ use crate::show::{Asked, show_answers};
 use broker::Broker;
 use family::{Order, rehearse};
 use price::Price;
-use rules::{Answer, Call, SlipNumbers};
+use rules::{Answer, Call, Refusal, SlipNumbers};
 use std::io;
 use std::io::Write;
 
 /// How many brokers play.
 pub const BROKERS: usize = 3;
 
-/// What each broker answered, or none where it was not called.
-type Answers = [Option<Answer>; BROKERS];
+/// What a broker answered, or none where it was not called.
+type Told = Option<Result<Answer, Refusal>>;
+
+/// What each broker answered.
+type Answers = [Told; BROKERS];
 
 // Performs a call on one broker.
-fn call_one<P: Price>(brokers: &mut [Broker<P>], broker: usize, call: Call) -> Option<Answer> {
+fn call_one<P: Price>(brokers: &mut [Broker<P>], broker: usize, call: Call) -> Told {
     let mut told = [None];
     rehearse(brokers, &[Order { broker, call }], &mut told).unwrap();
     told[0]
@@ -29,9 +32,9 @@ fn call_each<P: Price>(brokers: &mut [Broker<P>], call: Call) -> Answers {
 }
 
 // The slip that a broker answered.
-fn slip(answer: Option<Answer>) -> Option<SlipNumbers> {
+fn slip(answer: Told) -> Option<SlipNumbers> {
     match answer {
-        Some(Answer::Granted(slip)) => Some(slip),
+        Some(Ok(Answer::Granted(slip))) => Some(slip),
         _ => None,
     }
 }

@@ -1,7 +1,7 @@
 //! What is printed.
 use broker::Broker;
 use price::Price;
-use rules::{Answer, Call, Quote};
+use rules::{Admission, Answer, Call, Estimate, Quote, Refusal};
 use std::io::Write;
 use std::iter::successors;
 use std::{fmt, io};
@@ -14,13 +14,15 @@ impl fmt::Display for Asked {
     fn fmt<W: fmt::Write>(&self, f: &mut fmt::Formatter<W>) -> fmt::Result {
         match self.0 {
             Call::Start { unit, frames } => write!(f, "start unit {unit} with {frames} frames"),
-            Call::Admit {
-                client,
-                shares,
-                class,
-                minimum,
-                maximum,
-            } => write!(
+            Call::Admit(
+                Admission {
+                    client,
+                    shares,
+                    class,
+                    minimum,
+                    maximum,
+                },
+            ) => write!(
                 f,
                 "admit {client} with {shares} shares, class {class}, {minimum} to {maximum} frames"
             ),
@@ -30,8 +32,7 @@ impl fmt::Display for Asked {
             Call::Leave { client } => write!(f, "leave {client}"),
             Call::SetEstimate {
                 client,
-                active,
-                end,
+                estimate: Estimate { active, end },
             } => write!(f, "estimate {client} active {active} until {end}"),
             Call::SetClock { tick } => write!(f, "clock {tick}"),
         }
@@ -40,17 +41,21 @@ impl fmt::Display for Asked {
 
 /// What a broker answered, as it is printed: a dash where it was not called.
 #[derive(Drop)]
-struct Told(Option<Answer>);
+struct Told(Option<Result<Answer, Refusal>>);
 
 impl fmt::Display for Told {
     fn fmt<W: fmt::Write>(&self, f: &mut fmt::Formatter<W>) -> fmt::Result {
         match self.0 {
             None => write!(f, "-"),
-            Some(Answer::Done) => write!(f, "done"),
-            Some(Answer::Granted(slip)) => write!(f, "frame {} from {}", slip.frame, slip.former),
-            Some(Answer::Frame(frame)) => write!(f, "frame {frame}"),
-            Some(Answer::Count(count)) => write!(f, "count {count}"),
-            Some(Answer::Refused(refusal)) => write!(f, "refused {}", refusal.number()),
+            Some(Ok(Answer::Done)) => write!(f, "done"),
+            Some(Ok(Answer::Granted(slip))) => write!(
+                f,
+                "frame {} from {}",
+                slip.frame, slip.former
+            ),
+            Some(Ok(Answer::Frame(frame))) => write!(f, "frame {frame}"),
+            Some(Ok(Answer::Count(count))) => write!(f, "count {count}"),
+            Some(Err(refusal)) => write!(f, "refused {}", refusal.number()),
         }
     }
 }
@@ -69,7 +74,7 @@ impl fmt::Display for Priced {
 /// Prints what was called, and the answers of all brokers behind it.
 pub fn show_answers<C: fmt::Display, W: Write>(
     called: &C,
-    answers: &[Option<Answer>],
+    answers: &[Option<Result<Answer, Refusal>>],
     out: &mut W,
 ) -> io::Result<()> {
     write!(out, "  {called}")?;

@@ -3,7 +3,7 @@ use Rattle.std.proofs.Common.{◌≡◌, ℕ, List, [], ◌∷◌, ◌++◌, Som
 use Rattle.std.proofs.lemmas.List.{append-nil}
 use Rattle.std.specs.Io.KnownBytes.{Appends, Keeps}
 use Rattle.std.specs.Iterator.{Yields}
-use Rattle.rules.specs.Offers.{Meaning}
+use Rattle.price.specs.declared.telling.Price.{Ghosts}
 use Rattle.session.specs.declared.printed.Printed.{Printed}
 use Rattle.session.specs.Run.{Run, Nexts, Gives, none, some, ended, lines}
 
@@ -32,6 +32,6 @@ pub value_printed : (a b c : Option (List ℕ)) (vs : List Printed) (v : Printed
 value_printed a b c vs v h k = subst (Appends a c) (sym (lines_on vs v)) (appends_on a b c (lines vs) (ended v) h k)
 
 -- what calls gave until the run gave none
-pub gives_yielded : {P : Type 0} (meaning : P → Meaning) (r : Run P) (vs : List Printed) (t u : Run P) → Yields (Nexts meaning) r vs t → Nexts meaning t None u → Gives meaning r vs
-gives_yielded meaning r [] t u e n = none (subst (λ s. Nexts meaning s None u) (sym e) n)
-gives_yielded meaning r (v ∷ vs) t u (j, n, y) last = some n (gives_yielded meaning j vs t u y last)
+pub gives_yielded : {P : Type 0} {g : Ghosts P} (r : Run P g) (vs : List Printed) (t u : Run P g) → Yields Nexts r vs t → Nexts t None u → Gives r vs
+gives_yielded r [] t u e n = none (subst (λ s. Nexts s None u) (sym e) n)
+gives_yielded r (v ∷ vs) t u (j, n, y) last = some n (gives_yielded j vs t u y last)

@@ -1,9 +1,9 @@
 //! Printing a run, and a whole run from the input to what is printed of it.
 ghost use Rattle.session.specs.Run.{PrintsRun, Serves};
-ghost use Rattle.std.specs.Prelude.{ℕ, List, OnOk};
+ghost use Rattle.std.specs.Prelude.{◌≡◌, ℕ, List, take, IfSome, OnOk};
 
 use crate::run::Run;
-use events::{fill, input_buffer};
+use events::read_input;
 use price::Price;
 use std::alloc::Global;
 use std::io;
@@ -12,7 +12,7 @@ use text::Line;
 
 /// Prints all that a run gives, line by line.
 pub fn print_all<P: Price + Drop, W: Write>(run: &mut Run<P>, out: &mut W) -> io::Result<()>
-    ensures { OnOk result (PrintsRun P.Price.meaning run.old (W.contents out.old) (W.contents out.new)) }
+    ensures { OnOk result (PrintsRun run.old (W.contents out.old) (W.contents out.new)) }
 {
     for value in run {
         value.print(out)?;
@@ -21,16 +21,15 @@ pub fn print_all<P: Price + Drop, W: Write>(run: &mut Run<P>, out: &mut W) -> io
 }
 
 /// Reads an input, performs it on a new broker under a price, and prints what comes of each line, and the end report.
-pub fn serve<P: Price + Drop, R: Read, W: Write>(
+pub fn serve<P: Price + Drop, R: Read + Drop, W: Write>(
     price: P,
     heap: Global,
-    from: &mut R,
+    from: R,
     out: &mut W,
 ) -> io::Result<()>
-    ensures { OnOk result ((input : List ℕ) × Serves (P.Price.meaning price) input (W.contents out.old) (W.contents out.new)) }
+    ensures { OnOk result ((input : List ℕ) × IfSome (R.remaining from) (λ bytes. input ≡ take 16_777_216 bytes) × Serves (P.Price.meaning price) input (W.contents out.old) (W.contents out.new)) }
 {
-    let mut input = input_buffer(heap)?;
-    let n = fill(from, &mut input)?;
-    print_all(&mut Run::new(price, &input[0..n]), out)?;
+    let input = read_input(heap, from)?;
+    print_all(&mut Run::new(price, &input), out)?;
     out.flush()
 }

@@ -4,6 +4,7 @@ ghost use Rattle.std.specs.Prelude.{◌+◌, ◌^◌, ◌<◌, length};
 use crate::session::Session;
 use broker::Broker;
 use events::Lines;
+use price::Price;
 use std::marker::PhantomData;
 
 mod next;
@@ -19,7 +20,7 @@ pub(crate) enum Stage {
 /// The values that are printed for an input on a new broker, one for each line, and then the end report: the free frames,
 /// and each client by rising number.
 #[derive(Drop)]
-pub struct Run<'a, P> {
+pub struct Run<'a, P: Price> {
     session: Session<P>,
     lines: Lines<'a>,
     number: u64,

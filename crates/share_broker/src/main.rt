@@ -7,6 +7,6 @@ use std::io::BufWriter;
 
 fn main(rt: HostRuntime) -> anyhow::Result<()> {
     let mut out = BufWriter::new(rt.alloc(), rt.stdout())?;
-    serve(SharePrice, rt.alloc(), &mut rt.stdin(), &mut out)?;
+    serve(SharePrice, rt.alloc(), rt.stdin(), &mut out)?;
     Ok(())
 }

@@ -5,7 +5,7 @@ ghost use Rattle.session.specs.declared.printed.Printed.TheVariants.{Free, Clien
 ghost use Rattle.session.specs.Session.{Lined};
 ghost use Rattle.session.specs.Run.{held_of, left, Fresh, Nexts};
 ghost use Rattle.std.specs.Iterator.{at_most};
-ghost use Rattle.broker.specs.View.{view};
+ghost use Rattle.broker.specs.View.{meaning, view};
 
 use super::{Run, Stage};
 use crate::printed::Printed;
@@ -17,7 +17,7 @@ use std::marker::PhantomData;
 impl<'a, P: Price> Run<'a, P> {
     /// A run of an input on a new broker under a price.
     pub fn new(price: P, input: &'a [u8]) -> Run<'a, P>
-        ensures { Fresh P.Price.meaning price input.now result }
+        ensures { Fresh price input.now result }
     {
         Run {
             session: Session::new(price),
@@ -31,7 +31,7 @@ impl<'a, P: Price> Run<'a, P> {
     // Performs a line under the next number.
     fn perform(&mut self, line: &[u8]) -> Printed
         requires { self.old.number + 1 + length self.old.lines.rest.now < 2 ^ 64 }
-        ensures lined { Lined P.Price.meaning (self.old.number + 1) self.old.session.broker line.now result self.new.session.broker }
+        ensures lined { Lined (self.old.number + 1) self.old.session.broker line.now result self.new.session.broker }
         ensures number { self.new.number ≡ self.old.number + 1 }
         ensures lines { self.new.lines ≡ self.old.lines }
         ensures stage { self.new.stage ≡ self.old.stage }
@@ -54,7 +54,7 @@ impl<'a, P: Price> Run<'a, P> {
 
     // Reports a client.
     fn report_client(&mut self, client: u32) -> Printed
-        ensures printed { result ≡ Client client (held_of (P.Price.meaning self.old.session.broker.price) (view self.old.session.broker) client) }
+        ensures printed { result ≡ Client client (held_of (meaning self.old.session.broker) (view self.old.session.broker) client) }
         ensures session { self.new.session ≡ self.old.session }
         ensures stage { self.new.stage ≡ Reporting client }
     {
@@ -68,7 +68,7 @@ impl<'a, P: Price> Run<'a, P> {
     // What is printed of the next line, or the head of the end report where no line is left.
     fn next_line(&mut self) -> Printed
         requires { self.old.stage ≡ Reading }
-        ensures { Nexts P.Price.meaning self.old (Some result) self.new }
+        ensures { Nexts self.old (Some result) self.new }
     {
         match self.lines.next() {
             Some(line) => self.perform(line),
@@ -79,7 +79,7 @@ impl<'a, P: Price> Run<'a, P> {
     // What is printed of the next client above one.
     fn next_client(&mut self, after: u32) -> Option<Printed>
         requires { self.old.stage ≡ Reporting after }
-        ensures { Nexts P.Price.meaning self.old result self.new }
+        ensures { Nexts self.old result self.new }
     {
         let client = self.session.broker.next_client(after)?;
         Some(self.report_client(client))
@@ -90,7 +90,7 @@ impl<'a, P: Price> Run<'a, P> {
 impl<P: Price + Drop> Iterator for Run<'_, P> {
     type Item = Printed;
 
-    ghost next_gives = { Nexts P.Price.meaning };
+    ghost next_gives = { Nexts };
 
     ghost remaining = { λ run. at_most (left run) };
 

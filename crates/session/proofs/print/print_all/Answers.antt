@@ -15,7 +15,7 @@ returns g c =
     let first = c.into_iter-value-iterator in
     record {
       all = c.loop-value.yielded;
-      gives = subst (λ (r : Run _). Gives g.P.Price.meaning r c.loop-value.yielded) (ap (λ (s : MutBor (Run _)). s.now) first.ensures.into_iter_gives)
-          (gives_yielded g.P.Price.meaning first.result.now c.loop-value.yielded c.loop-value.value-iterator.now c.next.new.self.now c.loop-value.yielded_by c.in-None.ensures.steps);
+      gives = subst (λ (r : Run _ _). Gives r c.loop-value.yielded) (ap (λ (s : MutBor (Run _ _)). s.now) first.ensures.into_iter_gives)
+          (gives_yielded first.result.now c.loop-value.yielded c.loop-value.value-iterator.now c.next.new.self.now c.loop-value.yielded_by c.in-None.ensures.steps);
       prints = c.loop-value.invariant;
     }

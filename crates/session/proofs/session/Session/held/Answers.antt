@@ -5,4 +5,4 @@ use Rattle.session.proofs.session.Session.held.Goals as goal
 pub returns-in_err-price : goal.returns-in_err-price
 returns-in_err-price g c =
     rw c.from_residual-in_err-price.ensures
-    (unpriced g.P.Price.meaning c.args.self.now.broker c.args.client c.in_ok-frames.frames (search rules) c.price_at.result c.price_at.ensures (search rules))
+    (unpriced c.args.self.now.broker c.args.client c.in_ok-frames.frames (search rules) c.price_at.result c.price_at.ensures (search rules))
