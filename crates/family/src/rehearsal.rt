@@ -7,9 +7,10 @@ use price::Price;
 use rules::{Answer, Refusal};
 
 // Performs an order on its broker, if there is one.
-fn obey<P: Price>(brokers: &mut [Broker<P>], order: Order) -> Option<Answer>
-    ensures { Obeyed P.Price.meaning brokers.old order result brokers.new }
+fn obey<P: Price>(brokers: &mut [Broker<P>], order: Order) -> Option<Result<Answer, Refusal>>
+    ensures { Obeyed brokers.old order result brokers.new }
 {
+    // Kept: `get_mut` says nothing of what the brokers are left as, so the broker is called by its place.
     if order.broker >= brokers.len() {
         return None;
     }
@@ -22,15 +23,16 @@ fn obey<P: Price>(brokers: &mut [Broker<P>], order: Order) -> Option<Answer>
 pub fn rehearse<P: Price>(
     brokers: &mut [Broker<P>],
     orders: &[Order],
-    answers: &mut [Option<Answer>],
+    answers: &mut [Option<Result<Answer, Refusal>>],
 ) -> Result<(), Refusal>
-    ensures { Rehearsed P.Price.meaning brokers.old orders.now answers.old result brokers.new answers.new }
+    ensures { Rehearsed brokers.old orders.now answers.old result brokers.new answers.new }
 {
     if answers.len() < orders.len() {
         return Err(Refusal::BufferTooShort);
     }
-    for i in 0..orders.len() {
-        answers[i] = obey(brokers, orders[i]);
+    // Kept: of places that are written through a zip with the orders nothing is known behind the loop.
+    for (i, order) in orders.iter().enumerate() {
+        answers[i] = obey(brokers, *order);
     }
     Ok(())
 }

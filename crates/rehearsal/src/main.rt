@@ -8,49 +8,61 @@ mod week;
 
 use broker::Broker;
 use play::{play_all, play_passage, settle};
-use price::{ClassPrice, EitherPrice, SharePrice, TaxedPrice};
+use price::{ClassPrice, Price, SharePrice, TaxedPrice};
+use rules::Call;
 use show::show_rest;
+use std::io;
 use std::io::{BufWriter, Write};
 use week::{friday, monday, tuesday, wednesday};
 
-fn rehearsal(rt: &HostRuntime) -> anyhow::Result<()> {
-    let Ok(taxed) = TaxedPrice::new(75) else {
-        return Ok(());
-    };
-    let share = EitherPrice::First(SharePrice);
-    let classed = EitherPrice::Second(EitherPrice::Second(ClassPrice::new(taxed)));
+/// What is played on a day, before the clients ask until no broker grants anything.
+#[derive(Drop)]
+enum Day<'a> {
+    Calls(&'a [Call]),
+    Passage,
+}
+
+/// Plays a day.
+fn play_day<P: Price, W: Write>(
+    brokers: &mut [Broker<P>],
+    name: &str,
+    day: &Day<'_>,
+    out: &mut W,
+) -> io::Result<()> {
+    writeln!(out, "{name}")?;
+    match day {
+        Day::Calls(calls) => play_all(brokers, calls, out)?,
+        Day::Passage => play_passage(brokers, out)?,
+    }
+    settle(brokers, out)
+}
+
+fn main(rt: HostRuntime) -> anyhow::Result<()> {
+    let taxed = TaxedPrice::new(75).unwrap();
+    let classed = ClassPrice::new(taxed);
     let mut brokers = [
-        Broker::new(share),
-        Broker::new(EitherPrice::Second(EitherPrice::First(taxed))),
-        Broker::new(classed),
+        Broker::new(&SharePrice as &dyn Price),
+        Broker::new(&taxed),
+        Broker::new(&classed),
     ];
     let mut out = BufWriter::new(rt.alloc(), rt.stdout())?;
     writeln!(
         out,
         "call: under the share price; under the taxed price at 75; by class, then taxed at 75"
     )?;
-    writeln!(out, "monday")?;
-    play_all(&mut brokers, &monday(), &mut out)?;
-    settle(&mut brokers, &mut out)?;
-    writeln!(out, "tuesday")?;
-    play_all(&mut brokers, &tuesday(), &mut out)?;
-    settle(&mut brokers, &mut out)?;
-    writeln!(out, "wednesday")?;
-    play_all(&mut brokers, &wednesday(), &mut out)?;
-    settle(&mut brokers, &mut out)?;
-    writeln!(out, "thursday")?;
-    play_passage(&mut brokers, &mut out)?;
-    settle(&mut brokers, &mut out)?;
-    writeln!(out, "friday")?;
-    play_all(&mut brokers, &friday(), &mut out)?;
-    settle(&mut brokers, &mut out)?;
-    show_rest("share", &brokers[0], &mut out)?;
-    show_rest("taxed", &brokers[1], &mut out)?;
-    show_rest("class", &brokers[2], &mut out)?;
+    let week = [
+        ("monday", Day::Calls(&monday())),
+        ("tuesday", Day::Calls(&tuesday())),
+        ("wednesday", Day::Calls(&wednesday())),
+        ("thursday", Day::Passage),
+        ("friday", Day::Calls(&friday())),
+    ];
+    for (name, day) in &week {
+        play_day(&mut brokers, name, day, &mut out)?;
+    }
+    for (name, broker) in ["share", "taxed", "class"].iter().zip(&brokers) {
+        show_rest(name, broker, &mut out)?;
+    }
     out.flush()?;
     Ok(())
-}
-
-fn main(rt: HostRuntime) -> anyhow::Result<()> {
-    rehearsal(&rt)
 }

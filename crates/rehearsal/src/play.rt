@@ -1,74 +1,87 @@
 //! Calls played on all brokers alike.
-use crate::show::{show_answers, show_call};
+use crate::show::{Asked, show_answers};
 use broker::Broker;
 use family::{Order, rehearse};
 use price::Price;
-use rules::{Answer, Call, SlipNumbers};
+use rules::{Answer, Call, Refusal, SlipNumbers};
 use std::io;
 use std::io::Write;
 
+/// How many brokers play.
+pub const BROKERS: usize = 3;
+
+/// What a broker answered, or none where it was not called.
+type Told = Option<Result<Answer, Refusal>>;
+
+/// What each broker answered.
+type Answers = [Told; BROKERS];
+
+// Performs a call on one broker.
+fn call_one<P: Price>(brokers: &mut [Broker<P>], broker: usize, call: Call) -> Told {
+    let mut told = [None];
+    rehearse(brokers, &[Order { broker, call }], &mut told).unwrap();
+    told[0]
+}
+
 // Performs a call on each broker.
-fn call_each<P: Price>(brokers: &mut [Broker<P>], call: Call) -> [Option<Answer>; 3] {
-    let orders = [
-        Order { broker: 0, call },
-        Order { broker: 1, call },
-        Order { broker: 2, call },
-    ];
-    let mut answers = [None; 3];
-    match rehearse(brokers, &orders, &mut answers) {
-        Ok(()) => answers,
-        Err(_) => [None; 3],
+fn call_each<P: Price>(brokers: &mut [Broker<P>], call: Call) -> Answers {
+    let orders = [0, 1, 2].map(|broker| Order { broker, call });
+    let mut answers = [None; BROKERS];
+    rehearse(brokers, &orders, &mut answers).unwrap();
+    answers
+}
+
+// The slip that a broker answered.
+fn slip(answer: Told) -> Option<SlipNumbers> {
+    match answer {
+        Some(Ok(Answer::Granted(slip))) => Some(slip),
+        _ => None,
     }
 }
 
 // Delivers the slip of each answer that has one.
-fn deliver_each<P: Price>(
-    brokers: &mut [Broker<P>],
-    answers: &[Option<Answer>],
-) -> [Option<Answer>; 3] {
-    let mut delivered = [None; 3];
-    for i in 0..3 {
-        if i < answers.len() {
-            let answer = answers[i];
-            if let Some(Answer::Granted(slip)) = answer {
-                let order = Order {
-                    broker: i,
-                    call: Call::Deliver { slip },
-                };
-                let mut told = [None; 1];
-                if rehearse(brokers, &[order], &mut told).is_ok() {
-                    delivered[i] = told[0];
-                }
-            }
+fn deliver_each<P: Price>(brokers: &mut [Broker<P>], answers: &Answers) -> Answers {
+    let mut delivered = [None; BROKERS];
+    for (broker, (answer, told)) in answers.iter().zip(delivered.iter_mut()).enumerate() {
+        if let Some(slip) = slip(*answer) {
+            *told = call_one(brokers, broker, Call::Deliver { slip });
         }
     }
     delivered
 }
 
-// Whether a broker has granted a frame.
-fn any_granted(answers: &[Option<Answer>]) -> bool {
-    for answer in answers {
-        if let Some(Answer::Granted(_)) = answer {
-            return true;
-        }
-    }
-    false
+// Performs a call on each broker, and prints the answers.
+fn tell<P: Price, W: Write>(
+    brokers: &mut [Broker<P>],
+    call: Call,
+    out: &mut W,
+) -> io::Result<Answers> {
+    let answers = call_each(brokers, call);
+    show_answers(&Asked(call), &answers, out)?;
+    Ok(answers)
 }
 
-// Plays one call on each broker, delivers what is granted, and prints the answers.
+// Delivers what was granted, and prints the answers.
+fn tell_delivery<P: Price, W: Write>(
+    brokers: &mut [Broker<P>],
+    answers: &Answers,
+    out: &mut W,
+) -> io::Result<()> {
+    let delivered = deliver_each(brokers, answers);
+    show_answers(&"deliver", &delivered, out)
+}
+
+// Plays one call on each broker, delivers what is granted, and prints the answers. It answers whether a broker has granted
+// a frame.
 fn play<P: Price, W: Write>(
     brokers: &mut [Broker<P>],
     call: Call,
     out: &mut W,
 ) -> io::Result<bool> {
-    let answers = call_each(brokers, call);
-    show_call(call, out)?;
-    show_answers(&answers, out)?;
-    let granted = any_granted(&answers);
+    let answers = tell(brokers, call, out)?;
+    let granted = answers.iter().any(|answer| slip(*answer).is_some());
     if granted {
-        let delivered = deliver_each(brokers, &answers);
-        write!(out, "  deliver")?;
-        show_answers(&delivered, out)?;
+        tell_delivery(brokers, &answers, out)?;
     }
     Ok(granted)
 }
@@ -88,11 +101,12 @@ pub fn play_all<P: Price, W: Write>(
 /// Lets the clients 1, 2 and 3 ask in turn until no broker grants anything, at most 24 times round.
 pub fn settle<P: Price, W: Write>(brokers: &mut [Broker<P>], out: &mut W) -> io::Result<()> {
     for _round in 0..24 {
-        let first = play(brokers, Call::Ask { client: 1 }, out)?;
-        let second = play(brokers, Call::Ask { client: 2 }, out)?;
-        let third = play(brokers, Call::Ask { client: 3 }, out)?;
-        if !first && !second && !third {
-            return Ok(());
+        let mut granted = false;
+        for client in [1, 2, 3] {
+            granted |= play(brokers, Call::Ask { client }, out)?;
+        }
+        if !granted {
+            break;
         }
     }
     Ok(())
@@ -102,12 +116,7 @@ pub fn settle<P: Price, W: Write>(brokers: &mut [Broker<P>], out: &mut W) -> io:
 /// for it again; before the slip is delivered, client 2 asks, the clock is set, and a slip of unit 8 comes.
 pub fn play_passage<P: Price, W: Write>(brokers: &mut [Broker<P>], out: &mut W) -> io::Result<()> {
     play(brokers, Call::HandBack { client: 1 }, out)?;
-    let ask = Call::Ask { client: 1 };
-    let answers = call_each(brokers, ask);
-    show_call(ask, out)?;
-    show_answers(&answers, out)?;
-    play(brokers, Call::Ask { client: 2 }, out)?;
-    play(brokers, Call::SetClock { tick: 15 }, out)?;
+    let answers = tell(brokers, Call::Ask { client: 1 }, out)?;
     let wrong = SlipNumbers {
         unit: 8,
         client: 1,
@@ -115,8 +124,11 @@ pub fn play_passage<P: Price, W: Write>(brokers: &mut [Broker<P>], out: &mut W) 
         former: 0,
         asks: 1,
     };
-    play(brokers, Call::Deliver { slip: wrong }, out)?;
-    let delivered = deliver_each(brokers, &answers);
-    write!(out, "  deliver")?;
-    show_answers(&delivered, out)
+    let waiting = [
+        Call::Ask { client: 2 },
+        Call::SetClock { tick: 15 },
+        Call::Deliver { slip: wrong },
+    ];
+    play_all(brokers, &waiting, out)?;
+    tell_delivery(brokers, &answers, out)
 }

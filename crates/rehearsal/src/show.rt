@@ -1,68 +1,88 @@
 //! What is printed.
 use broker::Broker;
 use price::Price;
-use rules::{Answer, Call};
-use std::io;
+use rules::{Admission, Answer, Call, Estimate, Quote, Refusal};
 use std::io::Write;
+use std::iter::successors;
+use std::{fmt, io};
 
-/// Prints a call.
-pub fn show_call<W: Write>(call: Call, out: &mut W) -> io::Result<()> {
-    match call {
-        Call::Start { unit, frames } => write!(out, "  start unit {unit} with {frames} frames"),
-        Call::Admit {
-            client,
-            shares,
-            class,
-            minimum,
-            maximum,
-        } => write!(
-            out,
-            "  admit {client} with {shares} shares, class {class}, {minimum} to {maximum} frames"
-        ),
-        Call::Ask { client } => write!(out, "  ask {client}"),
-        Call::Deliver { slip } => {
-            let unit = slip.unit;
-            write!(out, "  deliver a slip of unit {unit}")
-        }
-        Call::HandBack { client } => write!(out, "  hand back {client}"),
-        Call::Leave { client } => write!(out, "  leave {client}"),
-        Call::SetEstimate {
-            client,
-            active,
-            end,
-        } => write!(out, "  estimate {client} active {active} until {end}"),
-        Call::SetClock { tick } => write!(out, "  clock {tick}"),
-    }
-}
+/// A call, as it is printed.
+#[derive(Drop)]
+pub struct Asked(pub Call);
 
-// Prints one answer.
-fn show_answer<W: Write>(answer: Option<Answer>, out: &mut W) -> io::Result<()> {
-    match answer {
-        None => write!(out, "-"),
-        Some(Answer::Done) => write!(out, "done"),
-        Some(Answer::Granted(slip)) => {
-            let frame = slip.frame;
-            let former = slip.former;
-            write!(out, "frame {frame} from {former}")
-        }
-        Some(Answer::Frame(frame)) => write!(out, "frame {frame}"),
-        Some(Answer::Count(count)) => write!(out, "count {count}"),
-        Some(Answer::Refused(refusal)) => {
-            let number = refusal.number();
-            write!(out, "refused {number}")
+impl fmt::Display for Asked {
+    fn fmt<W: fmt::Write>(&self, f: &mut fmt::Formatter<W>) -> fmt::Result {
+        match self.0 {
+            Call::Start { unit, frames } => write!(f, "start unit {unit} with {frames} frames"),
+            Call::Admit(
+                Admission {
+                    client,
+                    shares,
+                    class,
+                    minimum,
+                    maximum,
+                },
+            ) => write!(
+                f,
+                "admit {client} with {shares} shares, class {class}, {minimum} to {maximum} frames"
+            ),
+            Call::Ask { client } => write!(f, "ask {client}"),
+            Call::Deliver { slip } => write!(f, "deliver a slip of unit {}", slip.unit),
+            Call::HandBack { client } => write!(f, "hand back {client}"),
+            Call::Leave { client } => write!(f, "leave {client}"),
+            Call::SetEstimate {
+                client,
+                estimate: Estimate { active, end },
+            } => write!(f, "estimate {client} active {active} until {end}"),
+            Call::SetClock { tick } => write!(f, "clock {tick}"),
         }
     }
 }
 
-/// Prints the answers of all brokers behind a call.
-pub fn show_answers<W: Write>(answers: &[Option<Answer>], out: &mut W) -> io::Result<()> {
-    for (i, answer) in answers.iter().enumerate() {
-        if i == 0 {
-            write!(out, ": ")?;
-        } else {
-            write!(out, "; ")?;
+/// What a broker answered, as it is printed: a dash where it was not called.
+#[derive(Drop)]
+struct Told(Option<Result<Answer, Refusal>>);
+
+impl fmt::Display for Told {
+    fn fmt<W: fmt::Write>(&self, f: &mut fmt::Formatter<W>) -> fmt::Result {
+        match self.0 {
+            None => write!(f, "-"),
+            Some(Ok(Answer::Done)) => write!(f, "done"),
+            Some(Ok(Answer::Granted(slip))) => write!(
+                f,
+                "frame {} from {}",
+                slip.frame, slip.former
+            ),
+            Some(Ok(Answer::Frame(frame))) => write!(f, "frame {frame}"),
+            Some(Ok(Answer::Count(count))) => write!(f, "count {count}"),
+            Some(Err(refusal)) => write!(f, "refused {}", refusal.number()),
         }
-        show_answer(*answer, out)?;
+    }
+}
+
+/// A price, as it is printed.
+#[derive(Drop)]
+struct Priced(Quote);
+
+impl fmt::Display for Priced {
+    fn fmt<W: fmt::Write>(&self, f: &mut fmt::Formatter<W>) -> fmt::Result {
+        let Quote { class, top, bottom } = self.0;
+        write!(f, "{class}:{top}/{bottom}")
+    }
+}
+
+/// Prints what was called, and the answers of all brokers behind it.
+pub fn show_answers<C: fmt::Display, W: Write>(
+    called: &C,
+    answers: &[Option<Result<Answer, Refusal>>],
+    out: &mut W,
+) -> io::Result<()> {
+    write!(out, "  {called}")?;
+    let mut between = ": ";
+    for answer in answers {
+        let told = Told(*answer);
+        write!(out, "{between}{told}")?;
+        between = "; ";
     }
     writeln!(out, "")
 }
@@ -75,24 +95,17 @@ pub fn show_rest<P: Price, W: Write>(
 ) -> io::Result<()> {
     let free = broker.free_frames();
     writeln!(out, "{name} rests with {free} free")?;
-    let mut after = 0;
-    for _client in 0..256 {
-        let Some(client) = broker.next_client(after) else {
-            return Ok(());
-        };
+    for client in successors(broker.next_client(0), |last| broker.next_client(*last)).take(256) {
         if let Ok(holding) = broker.holding(client) {
-            write!(out, "  client {client} holds {holding}")?;
+            write!(out, "  client {client} holds {holding} price ")?;
             match broker.price_at(client, holding) {
                 Ok(quote) => {
-                    let class = quote.class;
-                    let top = quote.top;
-                    let bottom = quote.bottom;
-                    writeln!(out, " price {class}:{top}/{bottom}")?;
+                    let price = Priced(quote);
+                    writeln!(out, "{price}")?;
                 }
-                Err(_) => writeln!(out, " price -")?,
+                Err(_) => writeln!(out, "-")?,
             }
         }
-        after = client;
     }
     Ok(())
 }

@@ -1,5 +1,5 @@
 //! The calls of the week, besides the asks that lead to rest.
-use rules::Call;
+use rules::{Admission, Call, Estimate};
 
 /// A pool of six frames and three clients: 300 shares of class 0 with a minimum of 1, 100 shares of class 1, and 200 shares
 /// of class 2 with a maximum of 4. An admission beyond the pool, one of a client that is there, and a second start are
@@ -7,41 +7,41 @@ use rules::Call;
 pub fn monday() -> [Call; 7] {
     [
         Call::Start { unit: 7, frames: 6 },
-        Call::Admit {
+        Call::Admit(Admission {
             client: 1,
             shares: 300,
             class: 0,
             minimum: 1,
             maximum: 6,
-        },
-        Call::Admit {
+        }),
+        Call::Admit(Admission {
             client: 2,
             shares: 100,
             class: 1,
             minimum: 0,
             maximum: 6,
-        },
-        Call::Admit {
+        }),
+        Call::Admit(Admission {
             client: 3,
             shares: 200,
             class: 2,
             minimum: 0,
             maximum: 4,
-        },
-        Call::Admit {
+        }),
+        Call::Admit(Admission {
             client: 4,
             shares: 50,
             class: 0,
             minimum: 0,
             maximum: 7,
-        },
-        Call::Admit {
+        }),
+        Call::Admit(Admission {
             client: 1,
             shares: 50,
             class: 0,
             minimum: 0,
             maximum: 2,
-        },
+        }),
         Call::Start { unit: 8, frames: 9 },
     ]
 }
@@ -53,23 +53,19 @@ pub fn tuesday() -> [Call; 5] {
         Call::SetClock { tick: 5 },
         Call::SetEstimate {
             client: 1,
-            active: 1,
-            end: 10,
+            estimate: Estimate { active: 1, end: 10 },
         },
         Call::SetEstimate {
             client: 3,
-            active: 2,
-            end: 20,
+            estimate: Estimate { active: 2, end: 20 },
         },
         Call::SetEstimate {
             client: 2,
-            active: 7,
-            end: 20,
+            estimate: Estimate { active: 7, end: 20 },
         },
         Call::SetEstimate {
             client: 2,
-            active: 1,
-            end: 5,
+            estimate: Estimate { active: 1, end: 5 },
         },
     ]
 }
@@ -89,12 +85,12 @@ pub fn friday() -> [Call; 4] {
         Call::Leave { client: 2 },
         Call::Ask { client: 2 },
         Call::HandBack { client: 2 },
-        Call::Admit {
+        Call::Admit(Admission {
             client: 2,
             shares: 100,
             class: 0,
             minimum: 2,
             maximum: 3,
-        },
+        }),
     ]
 }

@@ -10,7 +10,7 @@ use Rattle.laws.specs.Division.{terms}
 use Rattle.laws.specs.Broker as rules
 use Rattle.laws.specs.Broker.{SlipNumbers, holding, terms_of, stack_of}
 use Rattle.laws.specs.Calls
-use Rattle.laws.specs.Calls.{Ask, Deliver, Done, Granted, Refused, Step, Absent, with_stack}
+use Rattle.laws.specs.Calls.{Ask, Deliver, Done, Granted, Step, Absent, with_stack}
 use Rattle.laws.specs.Histories as history
 use Rattle.laws.specs.Questions.{client_entries, price_entries, price_at}
 use Rattle.laws.proofs.Kept.{none_some}
@@ -19,7 +19,8 @@ use Rattle.laws.proofs.Puts.{put_at, put_off}
 use Rattle.pool.specs.declared.pool.Pool.{Pool}
 use Rattle.pool.specs.View as pool
 use Rattle.broker.specs.declared.broker.Broker.{Broker}
-use Rattle.broker.specs.View.{view, Kept, Stepped, KeepsBids, Called, Opens}
+use Rattle.broker.specs.View.{meaning, view, Stepped, Opens}
+use Rattle.price.specs.declared.telling.Price.{Ghosts}
 use Rattle.events.specs.declared.event.Event.TheVariants as event
 use Rattle.session.specs.declared.printed.Grant.{Grant}
 use Rattle.session.specs.declared.printed.Printed.TheVariants as line
@@ -34,10 +35,10 @@ pub holding_refused : (b : Pool) (c : ℕ) (r : Refusal) → First (client_entri
 holding_refused b c r f there = first_or_clear (client_entries (pool.view b) c) r f (holding_told b c there)
 
 -- the price is told at every count that a client may hold
-pub price_asked : {P : Type 0} (meaning : P → Meaning) (b : Broker P) (c n k : ℕ) → n ≡ holding (view b) c → (r : Result Quote Refusal) →
-    Replies (price_entries (view b) c (n + k)) (λ q. q ≡ price_at (meaning b.price) (view b) c (n + k)) r → Priced meaning b c k r
-price_asked meaning b c n k e (Ok q) (_, t) = t ∙ ap (λ (h : ℕ). price_at (meaning b.price) (view b) c (h + k)) e
-price_asked meaning b c n k e (Err r) f = λ may. first_or_clear (price_entries (view b) c (n + k)) r f (price_told b.pool c may.0 (n + k) (omega (arith, e, may.1)) (omega (arith, e, may.2)))
+pub price_asked : {P : Type 0} {g : Ghosts P} (b : Broker P g) (c n k : ℕ) → n ≡ holding (view b) c → (r : Result Quote Refusal) →
+    Replies (price_entries (view b) c (n + k)) (λ q. q ≡ price_at (meaning b) (view b) c (n + k)) r → Priced b c k r
+price_asked b c n k e (Ok q) (_, t) = t ∙ ap (λ (h : ℕ). price_at (meaning b) (view b) c (h + k)) e
+price_asked b c n k e (Err r) f = λ may. first_or_clear (price_entries (view b) c (n + k)) r f (price_told b.pool c may.0 (n + k) (omega (arith, e, may.1)) (omega (arith, e, may.2)))
 
 -- who lost a frame, where it was not free
 pub taken_refused : (b : rules.Broker) (p : ℕ) → (p ≡ 0 → ⊥) → (HasPrice b p 1 → ⊥) → Lost b p → ⊥
@@ -78,54 +79,46 @@ module _ (m : Meaning) (b : rules.Broker) (few : (d : ℕ) → holding b d ≤ 4
             (ap (λ (o : Option rules.Client). quoted (suc p) o (holding g (suc p) + 1)) k ∙ (ap (λ (n : ℕ). quoted (suc p) (Some y) n) one ∙ ap (λ (o : Option rules.Client). quoted (suc p) o (holding b (suc p))) (sym e))),
       )
 
-  pub leaves : (s : SlipNumbers) (g : rules.Broker) → holding g c ≤ 4_096 → s.former ≢ c → Step m b (Ask c) (Granted s) g → Leaves m b c s g
+  pub leaves : (s : SlipNumbers) (g : rules.Broker) → holding g c ≤ 4_096 → s.former ≢ c → Step m b (Ask c) (Ok (Granted s)) g → Leaves m b c s g
   leaves s g most other (Calls.granted_free {f = f} {fs = fs} {x = x} clear e h) = record { asker = refl; some = given b.clients x f g most refl; less = tt; over = refl }
   leaves s g most other (Calls.granted_from {p = p} {f = f} {fs = fs} {x = x} {y = y} clear e h may i k) =
       let t = taken p f fs y g i k (put_off (put b.clients p (Some (with_stack y fs))) c (Some (with_stack x (f ∷ x.stack))) p other ∙ put_at b.clients p (Some (with_stack y fs))) in
       record { asker = refl; some = given (put b.clients p (Some (with_stack y fs))) x f g most refl; less = t.0; over = t.1 }
 
 -- the slip that opened the passage is not refused
-pub delivers : {P : Type 0} (meaning : P → Meaning) (g d : Broker P) (s : SlipNumbers) (r : Refusal) → (view g).passage ≡ Some s → Stepped meaning g (Deliver s) (Refused r) d → ⊥
-delivers meaning g d s r e t = not_refused (view d) t.step
+pub delivers : {P : Type 0} {o : Ghosts P} (g d : Broker P o) (s : SlipNumbers) (r : Refusal) → (view g).passage ≡ Some s → Stepped g (Deliver s) (Err r) d → ⊥
+delivers g d s r e t = not_refused (view d) t.step
   where
-    not_refused : (w : rules.Broker) → Step (meaning g.price) (view g) (Deliver s) (Refused r) w → ⊥
+    not_refused : (w : rules.Broker) → Step (meaning g) (view g) (Deliver s) (Err r) w → ⊥
     not_refused w (Calls.refused (inl (h, _))) = h e
     not_refused w (Calls.refused (inr (_, h))) = h
 
-module _ {P : Type 0} (meaning : P → Meaning) (b g d : Broker P) (c : ℕ) (s : SlipNumbers) (a : Called meaning b (Ask c) (Granted s) g) (o : Opens meaning b c (Granted s) g) (t : Stepped meaning g (Deliver s) Done d) (keeps : KeepsBids meaning g d) where
+module _ {P : Type 0} {ghosts : Ghosts P} (b g d : Broker P ghosts) (c : ℕ) (s : SlipNumbers) (a : Stepped b (Ask c) (Ok (Granted s)) g) (o : Opens c s g) (t : Stepped g (Deliver s) (Ok Done) d) where
   abbrev m : Meaning
-  m = meaning b.price
+  m = meaning b
 
   abbrev calls : List history.Event
-  calls = history.event (Deliver s) Done (view d) ∷ history.event (Ask c) (Granted s) (view g) ∷ []
+  calls = history.event (Deliver s) (Ok Done) (view d) ∷ history.event (Ask c) (Ok (Granted s)) (view g) ∷ []
 
-  left_by : Kept meaning b → Leaves m (view b) c s (view g)
-  left_by kept = leaves m (view b) (few_held b.pool) c s (view g) (few_held g.pool c) (o.1 kept) ((a.stepped (λ _. kept)).step)
+  left_by : Leaves m (view b) c s (view g)
+  left_by = leaves m (view b) (few_held b.pool) c s (view g) (few_held g.pool c) o.1 a.step
 
-  delivery : Step m (view g) (Deliver s) Done (view d)
-  delivery = subst (λ (p : P). Step (meaning p) (view g) (Deliver s) Done (view d)) a.price t.step
+  delivery : Step m (view g) (Deliver s) (Ok Done) (view d)
+  delivery = subst (λ (p : P). Step (ghosts.meaning p) (view g) (Deliver s) (Ok Done) (view d)) a.price t.step
 
   -- what is printed of the slip, with the asker's price at a count
   abbrev paid : ℕ → Option Taken → Grant
   paid n k = record { client = s.client; frame = s.frame; paying = price_at m (view g) s.client n; taken = k }
 
-  pub grant_printed : (p : Grant) → p ≡ grant_after (meaning g.price) (view g) s → Performed meaning b (event.Ask c) (Ok (line.Grant p)) d
+  pub grant_printed : (p : Grant) → p ≡ grant_after (meaning g) (view g) s → Performed b (event.Ask c) (Ok (line.Grant p)) d
   grant_printed p e =
+      let none_more : holding (view g) s.client + 0 ≡ holding (view g) s.client = omega arith in
+      let same : p ≡ grant_of m (view b) s (view g) = e ∙ (ap (λ (q : P). grant_after (ghosts.meaning q) (view g) s) a.price
+      ∙ (ap (λ (n : ℕ). paid n (taken_from m (view g) s.former)) none_more ∙ ap (λ (k : Option Taken). paid (holding (view g) s.client) k) left_by.over)) in
       record {
-        performs = λ kept.
-            let l = left_by kept in
-            let none_more : holding (view g) s.client + 0 ≡ holding (view g) s.client = omega arith in
-            let same : p ≡ grant_of m (view b) s (view g) = e ∙ (ap (λ (q : P). grant_after (meaning q) (view g) s) a.price
-            ∙ (ap (λ (n : ℕ). paid n (taken_from m (view g) s.former)) none_more ∙ ap (λ (k : Option Taken). paid (holding (view g) s.client) k) l.over)) in
-            (calls, subst (λ (q : Grant). session.Performs m (view b) (event.Ask c) (Ok (line.Grant q)) calls (view d)) (sym same) (granted ((a.stepped (λ _. kept)).step) delivery));
-        kept = λ kept. keeps (a.kept kept);
+        performs = (calls, subst (λ (q : Grant). session.Performs m (view b) (event.Ask c) (Ok (line.Grant q)) calls (view d)) (sym same) (granted a.step delivery));
         price = t.price ∙ a.price;
       }
 
-  pub grant_unprinted : (r : Refusal) → (HasPrice (view g) s.client 0 → Lost (view g) s.former → ⊥) → Performed meaning b (event.Ask c) (Err r) d
-  grant_unprinted r f =
-      record {
-        performs = λ kept. let l = left_by kept in absurd (f (subst (λ (n : ℕ). HasPrice (view g) n 0) (sym l.asker) l.some) l.less);
-        kept = λ kept. keeps (a.kept kept);
-        price = t.price ∙ a.price;
-      }
+  pub grant_unprinted : (r : Refusal) → (HasPrice (view g) s.client 0 → Lost (view g) s.former → ⊥) → Performed b (event.Ask c) (Err r) d
+  grant_unprinted r f = absurd (f (subst (λ (n : ℕ). HasPrice (view g) n 0) (sym left_by.asker) left_by.some) left_by.less)

@@ -5,3 +5,4 @@ mod Asks
 mod Runs
 mod Once
 mod Fresh
+mod Printing

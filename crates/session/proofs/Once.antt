@@ -6,7 +6,7 @@ use Rattle.rules.specs.declared.refusal.Refusal.{Refusal}
 use Rattle.events.specs.declared.event.Event.{Event}
 use Rattle.events.proofs.Verdicts.{one_verdict}
 use Rattle.laws.specs.Broker.{Broker, SlipNumbers}
-use Rattle.laws.specs.Calls.{Call, Deliver, Answer, Done, Refused, Step}
+use Rattle.laws.specs.Calls.{Call, Deliver, Answer, Done, Step}
 use Rattle.laws.specs.Histories as history
 use Rattle.laws.specs.Histories.{IsAccepted}
 use Rattle.laws.proofs.One.{one_answer}
@@ -19,8 +19,8 @@ use Rattle.session.specs.Run.{held_of, Reports, PrintsAll, over, client, report,
 
 module _ (m : Meaning) (b : Broker) where
   -- a call is not both accepted and refused
-  not_both : (x : Call) (a : Answer) (r : Refusal) (d w : Broker) → IsAccepted a → Step m b x a d → Step m b x (Refused r) w → ⊥
-  not_both x a r d w accepted s t = subst IsAccepted (one_answer m b x a (Refused r) d w s t).0 accepted
+  not_both : (x : Call) (a : Result Answer Refusal) (r : Refusal) (d w : Broker) → IsAccepted a → Step m b x a d → Step m b x (Err r) w → ⊥
+  not_both x a r d w accepted s t = subst IsAccepted (one_answer m b x a (Err r) d w s t).0 accepted
 
   event_once : (e : Event) (r q : Result Printed Refusal) (h k : List history.Event) (d w : Broker) → Performs m b e r h d → Performs m b e q k w → (r ≡ q) × (d ≡ w)
   event_once e r q h k d w (session.started s) (session.started t) = (refl, (one_answer m b _ _ _ d w s t).1)
@@ -28,7 +28,7 @@ module _ (m : Meaning) (b : Broker) where
   event_once e r q h k d w (session.granted {s = x} {g = g} s t) (session.granted {s = y} {g = f} u v) =
       let o = one_answer m b _ _ _ g f s u in
       let slips : x ≡ y = (let z = o.0 in cc) in
-      let delivered : Step m f (Deliver y) Done d = subst (λ (z : Broker). Step m z (Deliver y) Done d) o.1 (subst (λ (z : SlipNumbers). Step m g (Deliver z) Done d) slips t) in
+      let delivered : Step m f (Deliver y) (Ok Done) d = subst (λ (z : Broker). Step m z (Deliver y) (Ok Done) d) o.1 (subst (λ (z : SlipNumbers). Step m g (Deliver z) (Ok Done) d) slips t) in
       (ap (λ (z : SlipNumbers). Ok (line.Grant (grant_of m b z g))) slips ∙ ap (λ (z : Broker). Ok (line.Grant (grant_of m b y z))) o.1, (one_answer m f _ _ _ d w delivered v).1)
   event_once e r q h k d w (session.handed_back s) (session.handed_back t) = let o = one_answer m b _ _ _ d w s t in let z = o.0 in (cc, o.1)
   event_once e r q h k d w (session.left s) (session.left t) = let o = one_answer m b _ _ _ d w s t in let z = o.0 in (cc, o.1)

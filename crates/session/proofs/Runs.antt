@@ -16,7 +16,8 @@ use Rattle.pool.specs.declared.pool.Pool.{Pool}
 use Rattle.pool.specs.View as pool
 use Rattle.pool.specs.View.{NextClient}
 use Rattle.broker.specs.declared.broker.Broker.{Broker}
-use Rattle.broker.specs.View.{view, Kept, Led}
+use Rattle.broker.specs.View.{meaning, view, Led}
+use Rattle.price.specs.declared.telling.Price.{Ghosts}
 use Rattle.session.specs.declared.printed.Held.{Held}
 use Rattle.session.specs.declared.printed.Printed.{Printed}
 use Rattle.session.specs.declared.printed.Printed.TheVariants as line
@@ -37,11 +38,11 @@ pub unheld : (m : Meaning) (b : Pool) (c : ℕ) (Q : ℕ → Type 0) (r : Result
 unheld m b c Q (Ok n) t never = absurd (never n refl)
 unheld m b c Q (Err r) t never = none_held m (pool.view b) c (holding (pool.view b) c) (λ h. holding_refused b c r t (holder_there b c h))
 
-pub unpriced : {P : Type 0} (meaning : P → Meaning) (b : Broker P) (c n : ℕ) → n ≡ holding (view b) c → (r : Result Quote Refusal) →
-    Replies (price_entries (view b) c n) (λ q. q ≡ price_at (meaning b.price) (view b) c n) r → ((q : Quote) → r ≡ Ok q → ⊥) → None ≡ held_of (meaning b.price) (view b) c
-unpriced meaning b c n e (Ok q) t never = absurd (never q refl)
-unpriced meaning b c n e (Err r) t never =
-    none_held (meaning b.price) (view b) c (holding (view b) c) (λ h. first_or_clear (price_entries (view b) c n) r t (price_told b.pool c (holder_there b.pool c h) n (omega (arith, e, h)) (omega (arith, e, few_held b.pool c))))
+pub unpriced : {P : Type 0} {g : Ghosts P} (b : Broker P g) (c n : ℕ) → n ≡ holding (view b) c → (r : Result Quote Refusal) →
+    Replies (price_entries (view b) c n) (λ q. q ≡ price_at (meaning b) (view b) c n) r → ((q : Quote) → r ≡ Ok q → ⊥) → None ≡ held_of (meaning b) (view b) c
+unpriced b c n e (Ok q) t never = absurd (never q refl)
+unpriced b c n e (Err r) t never =
+    none_held (meaning b) (view b) c (holding (view b) c) (λ h. first_or_clear (price_entries (view b) c n) r t (price_told b.pool c (holder_there b.pool c h) n (omega (arith, e, h)) (omega (arith, e, few_held b.pool c))))
 
 pub held_told : (m : Meaning) (b : rules.Broker) (c n : ℕ) (q : Quote) → (Outside 1 4_096 n → ⊥) → n ≡ holding b c → q ≡ price_at m b c n → Some (record { frames = n; price = q }) ≡ held_of m b c
 held_told m b c n q h e t = some_held n h t ∙ ap (held_at m b c) e
@@ -50,9 +51,9 @@ held_told m b c n q h e t = some_held n h t ∙ ap (held_at m b c) e
     some_held zero g u = absurd (g (inl (omega arith)))
     some_held (suc k) g u = ap (λ (p : Quote). Some (record { frames = suc k; price = p })) u
 
-module _ {P : Type 0} (meaning : P → Meaning) (before : Run P) where
+module _ {P : Type 0} {g : Ghosts P} (before : Run P g) where
   abbrev m : Meaning
-  m = meaning before.session.broker.price
+  m = meaning before.session.broker
 
   abbrev b : rules.Broker
   b = view before.session.broker
@@ -65,35 +66,34 @@ module _ {P : Type 0} (meaning : P → Meaning) (before : Run P) where
   At s vs = StillAt m b before.number rest s vs
 
   -- the end of the report
-  pub none_next : (k : ℕ) → before.stage ≡ Reporting k → NextClient b k None → Nexts meaning before None before
+  pub none_next : (k : ℕ) → before.stage ≡ Reporting k → NextClient b k None → Nexts before None before
   none_next k e h =
       let nothing = subst (λ (s : Stage). At s []) (sym e) (over h) in
-      record { prints = λ kept. (nothing, nothing); kept = λ kept. kept; price = refl; falls = tt; history = λ h led. ([], led) }
+      record { prints = (nothing, nothing); price = refl; falls = tt; history = λ h led. ([], led) }
 
-  module _ (after : Run P) (p : Printed) where
+  module _ (after : Run P g) (p : Printed) where
     -- a value of the report, which leaves the broker
     reported : (k : ℕ) → after.session ≡ before.session → after.stage ≡ Reporting k → ((vs : List Printed) → Reports m b k vs → At before.stage (p ∷ vs)) →
-        left_at (length after.lines.rest.now) (Reporting k) < left before → Nexts meaning before (Some p) after
+        left_at (length after.lines.rest.now) (Reporting k) < left before → Nexts before (Some p) after
     reported k same e prints less =
         record {
-          prints = λ kept vs more.
-              let there = subst (λ (s : Stage). StillAt (meaning after.session.broker.price) (view after.session.broker) after.number after.lines.rest.now s vs) e more in
-              prints vs (subst (λ (s : Session P). Reports (meaning s.broker.price) (view s.broker) k vs) same there);
-          kept = λ kept. subst (λ (s : Session P). Kept meaning s.broker) (sym same) kept;
-          price = ap (λ (s : Session P). s.broker.price) same;
+          prints = λ vs more.
+              let there = subst (λ (s : Stage). StillAt (meaning after.session.broker) (view after.session.broker) after.number after.lines.rest.now s vs) e more in
+              prints vs (subst (λ (s : Session P g). Reports (meaning s.broker) (view s.broker) k vs) same there);
+          price = ap (λ (s : Session P g). s.broker.price) same;
           falls = subst (λ (s : Stage). left_at (length after.lines.rest.now) s < left before) (sym e) less;
-          history = λ h led. ([], subst (λ (s : Session P). Led meaning h s.broker) (sym same) led);
+          history = λ h led. ([], subst (λ (s : Session P g). Led h s.broker) (sym same) led);
         }
 
     -- the head of the report, where no line is left
-    pub free_next : before.stage ≡ Reading → rest ≡ [] → after.session ≡ before.session → after.stage ≡ Reporting 0 → p ≡ line.Free (length b.free) → Nexts meaning before (Some p) after
+    pub free_next : before.stage ≡ Reading → rest ≡ [] → after.session ≡ before.session → after.stage ≡ Reporting 0 → p ≡ line.Free (length b.free) → Nexts before (Some p) after
     free_next e empty same now told =
         reported 0 same now
         (λ vs more. subst (λ (q : Printed). At before.stage (q ∷ vs)) (sym told) (subst (λ (s : Stage). At s (line.Free (length b.free) ∷ vs)) (sym e) ([], input.none empty, report more)))
         (subst (λ (s : Stage). 257 < left_at (length rest) s) (sym e) (omega arith))
 
     -- one client of the report
-    pub client_next : (k c : ℕ) → before.stage ≡ Reporting k → NextClient b k (Some c) → after.session ≡ before.session → after.stage ≡ Reporting c → p ≡ line.Client c (held_of m b c) → Nexts meaning before (Some p) after
+    pub client_next : (k c : ℕ) → before.stage ≡ Reporting k → NextClient b k (Some c) → after.session ≡ before.session → after.stage ≡ Reporting c → p ≡ line.Client c (held_of m b c) → Nexts before (Some p) after
     client_next k c e h same now told =
         reported c same now
         (λ vs more. subst (λ (q : Printed). At before.stage (q ∷ vs)) (sym told) (subst (λ (s : Stage). At s (line.Client c (held_of m b c) ∷ vs)) (sym e) (client h more)))
@@ -101,24 +101,23 @@ module _ {P : Type 0} (meaning : P → Meaning) (before : Run P) where
 
     -- the next line
     pub line_next : (text : List ℕ) → before.stage ≡ Reading → NextLine rest (Some text) after.lines.rest.now → length after.lines.rest.now < length rest →
-        Lined meaning (before.number + 1) before.session.broker text p after.session.broker → after.number ≡ before.number + 1 → after.stage ≡ before.stage → Nexts meaning before (Some p) after
+        Lined (before.number + 1) before.session.broker text p after.session.broker → after.number ≡ before.number + 1 → after.stage ≡ before.stage → Nexts before (Some p) after
     line_next text e (whole, head, cuts) less (r, told, j) raised still =
         record {
-          prints = λ kept vs more.
-              let (texts, cut, all) = subst (λ (s : Stage). StillAt (meaning after.session.broker.price) (view after.session.broker) after.number after.lines.rest.now s vs) now more in
-              let (calls, made) = j.performs kept whole (sym (take-take 80 80 whole (omega arith)) ∙ ap (take 80) (sym head)) in
-              let rest_printed = subst (λ (n : ℕ). PrintsAll m (view after.session.broker) (n + 1) texts vs) raised (subst (λ (q : P). PrintsAll (meaning q) (view after.session.broker) (after.number + 1) texts vs) j.price all) in
+          prints = λ vs more.
+              let (texts, cut, all) = subst (λ (s : Stage). StillAt (meaning after.session.broker) (view after.session.broker) after.number after.lines.rest.now s vs) now more in
+              let (calls, made) = j.performs whole (sym (take-take 80 80 whole (omega arith)) ∙ ap (take 80) (sym head)) in
+              let rest_printed = subst (λ (n : ℕ). PrintsAll m (view after.session.broker) (n + 1) texts vs) raised (subst (λ (q : P). PrintsAll (g.meaning q) (view after.session.broker) (after.number + 1) texts vs) j.price all) in
               subst (λ (s : Stage). At s (p ∷ vs)) (sym e) (whole ∷ texts, cuts_on after.lines.rest.now [] texts rest (whole ∷ []) cuts cut, then (r, told, made) rest_printed);
-          kept = j.kept;
           price = j.price;
           falls = subst (λ (s : Stage). left_at (length after.lines.rest.now) s < left before) (sym now) (subst (λ (s : Stage). length after.lines.rest.now + 258 < left_at (length rest) s) (sym e) (omega (arith, less)));
-          history = λ h led. let (calls, made) = j.performs led.1 text refl in (calls, j.history h calls text led made);
+          history = λ h led. let (calls, made) = j.performs text refl in (calls, j.history h calls text led made);
         }
       where
         now : after.stage ≡ Reading
         now = still ∙ e
 
 -- what a run gives is what it still prints
-pub gives_all : {P : Type 0} (meaning : P → Meaning) (r : Run P) (vs : List Printed) → Gives meaning r vs → Kept meaning r.session.broker → StillPrints meaning r vs
-gives_all meaning r vs (none n) kept = (n.prints kept).0
-gives_all meaning r vs (some {after = after} {vs = more} n g) kept = n.prints kept more (gives_all meaning after more g (n.kept kept))
+pub gives_all : {P : Type 0} {g : Ghosts P} (r : Run P g) (vs : List Printed) → Gives r vs → StillPrints r vs
+gives_all r vs (none n) = n.prints.0
+gives_all r vs (some {after = after} {vs = more} n given) = n.prints more (gives_all after more given)

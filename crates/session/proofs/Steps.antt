@@ -5,23 +5,24 @@ use Rattle.rules.specs.declared.refusal.Refusal.{Refusal}
 use Rattle.events.specs.declared.event.Event.{Event}
 use Rattle.events.specs.Faults.{Verdict}
 use Rattle.laws.specs.Broker as rules
-use Rattle.laws.specs.Calls.{Call, Answer, Refused, Step}
+use Rattle.laws.specs.Calls.{Call, Answer, Step}
 use Rattle.laws.specs.Histories as history
 use Rattle.laws.specs.Histories.{Run, then}
 use Rattle.broker.specs.declared.broker.Broker.{Broker}
-use Rattle.broker.specs.View.{view, Kept, KeepsBids, Called}
+use Rattle.broker.specs.View.{meaning, view, Stepped}
+use Rattle.price.specs.declared.telling.Price.{Ghosts}
 use Rattle.session.specs.declared.printed.Printed.{Printed}
 use Rattle.session.specs.Session.{call_of, Performs, LinePerforms, Performed, Judged}
 use Rattle.session.specs.Session as session
 
-module _ {P : Type 0} (meaning : P → Meaning) (before after : Broker P) where
+module _ {P : Type 0} {g : Ghosts P} (before after : Broker P g) where
   -- an event that makes one call
-  pub one_call : {x : Call} {a : Answer} {e : Event} {r : Result Printed Refusal} {calls : List history.Event} →
-      (Step (meaning before.price) (view before) x a (view after) → Performs (meaning before.price) (view before) e r calls (view after)) →
-      Called meaning before x a after → Performed meaning before e r after
-  one_call {calls = calls} prints s = record { performs = λ kept. (calls, prints (s.stepped (λ _. kept)).step); kept = s.kept; price = s.price }
+  pub one_call : {x : Call} {a : Result Answer Refusal} {e : Event} {r : Result Printed Refusal} {calls : List history.Event} →
+      (Step (meaning before) (view before) x a (view after) → Performs (meaning before) (view before) e r calls (view after)) →
+      Stepped before x a after → Performed before e r after
+  one_call {calls = calls} prints s = record { performs = (calls, prints s.step); price = s.price }
 
-  pub refused_call : (e : Event) (r : Refusal) → Called meaning before (call_of e) (Refused r) after → Performed meaning before e (Err r) after
+  pub refused_call : (e : Event) (r : Refusal) → Stepped before (call_of e) (Err r) after → Performed before e (Err r) after
   refused_call e r s = one_call (λ t. session.refused {e = e} t) s
 
 -- calls that a line made, after those that led to the broker
@@ -39,26 +40,21 @@ line_run : (m : Meaning) (o b : rules.Broker) (h : List history.Event) (text : L
 line_run m o b h text r calls d run (session.performed {e = e} v p) = performs_run m o b h e r calls d run p
 line_run m o b h text r calls d run (session.malformed v) = run
 
-module _ {P : Type 0} (meaning : P → Meaning) (before after : Broker P) (text : List ℕ) where
+module _ {P : Type 0} {g : Ghosts P} (before after : Broker P g) (text : List ℕ) where
   judged : (r : Result Printed Refusal) →
-      (Kept meaning before → (whole : List ℕ) → take 80 whole ≡ take 80 text → (calls : List history.Event) × LinePerforms (meaning before.price) (view before) whole r calls (view after)) →
-      KeepsBids meaning before after → after.price ≡ before.price → Judged meaning before text r after
-  judged r performs kept price =
+      ((whole : List ℕ) → take 80 whole ≡ take 80 text → (calls : List history.Event) × LinePerforms (meaning before) (view before) whole r calls (view after)) →
+      after.price ≡ before.price → Judged before text r after
+  judged r performs price =
       record {
         performs = performs;
-        kept = kept;
         price = price;
-        history = λ h calls whole led made. (
-          subst (λ (p : P). Run (meaning p) rules.new_broker (calls ++ h) (view after)) (sym price) (line_run (meaning before.price) rules.new_broker (view before) h whole r calls (view after) led.0 made),
-          kept led.1,
-        );
+        history = λ h calls whole led made. subst (λ (p : P). Run (g.meaning p) rules.new_broker (calls ++ h) (view after)) (sym price) (line_run (meaning before) rules.new_broker (view before) h whole r calls (view after) led made);
       }
 
   -- a line that says an event
-  pub event_judged : (e : Event) (r : Result Printed Refusal) → ((whole : List ℕ) → take 80 whole ≡ take 80 text → Verdict whole (Ok e)) → Performed meaning before e r after → Judged meaning before text r after
-  event_judged e r verdict p =
-      judged r (λ kept whole same. let q = p.performs kept in (q.0, session.performed (verdict whole same) q.1)) p.kept p.price
+  pub event_judged : (e : Event) (r : Result Printed Refusal) → ((whole : List ℕ) → take 80 whole ≡ take 80 text → Verdict whole (Ok e)) → Performed before e r after → Judged before text r after
+  event_judged e r verdict p = judged r (λ whole same. (p.performs.0, session.performed (verdict whole same) p.performs.1)) p.price
 
 -- a malformed line
-pub fault_judged : {P : Type 0} (meaning : P → Meaning) (b : Broker P) (text : List ℕ) (r : Refusal) → ((whole : List ℕ) → take 80 whole ≡ take 80 text → Verdict whole (Err r)) → Judged meaning b text (Err r) b
-fault_judged meaning b text r verdict = judged meaning b b text (Err r) (λ kept whole same. ([], session.malformed (verdict whole same))) (λ kept. kept) refl
+pub fault_judged : {P : Type 0} {g : Ghosts P} (b : Broker P g) (text : List ℕ) (r : Refusal) → ((whole : List ℕ) → take 80 whole ≡ take 80 text → Verdict whole (Err r)) → Judged b text (Err r) b
+fault_judged b text r verdict = judged b b text (Err r) (λ whole same. ([], session.malformed (verdict whole same))) refl

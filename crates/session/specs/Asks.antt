@@ -18,23 +18,24 @@ use Rattle.laws.specs.Broker.{SlipNumbers, holding}
 use Rattle.laws.specs.Calls.{Absent}
 use Rattle.laws.specs.Questions.{price_at}
 use Rattle.broker.specs.declared.broker.Broker.{Broker}
-use Rattle.broker.specs.View.{view}
+use Rattle.broker.specs.View.{meaning, view}
+use Rattle.price.specs.declared.telling.Price.{Ghosts}
 use Rattle.session.specs.declared.printed.Grant.{Grant}
 use Rattle.session.specs.declared.printed.Taken.{Taken}
 
 abbrev pub HasPrice : rules.Broker → ℕ → ℕ → Type 0
 HasPrice b c k = (Absent b c → ⊥) × (1 ≤ holding b c + k) × (holding b c + k ≤ 4_096)
 
-abbrev pub Priced : {P : Type 0} → (P → Meaning) → Broker P → ℕ → ℕ → Result Quote Refusal → Type 0
-Priced meaning b c k (Ok q) = q ≡ price_at (meaning b.price) (view b) c (holding (view b) c + k)
-Priced meaning b c k (Err r) = HasPrice (view b) c k → ⊥
+abbrev pub Priced : {P : Type 0} {g : Ghosts P} → Broker P g → ℕ → ℕ → Result Quote Refusal → Type 0
+Priced b c k (Ok q) = q ≡ price_at (meaning b) (view b) c (holding (view b) c + k)
+Priced b c k (Err r) = HasPrice (view b) c k → ⊥
 
 abbrev pub lost_by : Meaning → rules.Broker → ℕ → Taken
 lost_by m b p = record { from = p; over = price_at m b p (holding b p + 1) }
 
-abbrev pub LostBy : {P : Type 0} → (P → Meaning) → Broker P → ℕ → Result Taken Refusal → Type 0
-LostBy meaning b p (Ok t) = t ≡ lost_by (meaning b.price) (view b) p
-LostBy meaning b p (Err r) = HasPrice (view b) p 1 → ⊥
+abbrev pub LostBy : {P : Type 0} {g : Ghosts P} → Broker P g → ℕ → Result Taken Refusal → Type 0
+LostBy b p (Ok t) = t ≡ lost_by (meaning b) (view b) p
+LostBy b p (Err r) = HasPrice (view b) p 1 → ⊥
 
 abbrev pub taken_from : Meaning → rules.Broker → ℕ → Option Taken
 taken_from m b zero = None
@@ -44,14 +45,14 @@ abbrev pub Lost : rules.Broker → ℕ → Type 0
 Lost b zero = Unit {0}
 Lost b (suc p) = HasPrice b (suc p) 1
 
-abbrev pub TakenFrom : {P : Type 0} → (P → Meaning) → Broker P → ℕ → Result (Option Taken) Refusal → Type 0
-TakenFrom meaning b p (Ok o) = o ≡ taken_from (meaning b.price) (view b) p
-TakenFrom meaning b p (Err r) = Lost (view b) p → ⊥
+abbrev pub TakenFrom : {P : Type 0} {g : Ghosts P} → Broker P g → ℕ → Result (Option Taken) Refusal → Type 0
+TakenFrom b p (Ok o) = o ≡ taken_from (meaning b) (view b) p
+TakenFrom b p (Err r) = Lost (view b) p → ⊥
 
 abbrev pub grant_after : Meaning → rules.Broker → SlipNumbers → Grant
 grant_after m b s =
     record { client = s.client; frame = s.frame; paying = price_at m b s.client (holding b s.client + 0); taken = taken_from m b s.former }
 
-abbrev pub GrantOf : {P : Type 0} → (P → Meaning) → Broker P → SlipNumbers → Result Grant Refusal → Type 0
-GrantOf meaning b s (Ok g) = g ≡ grant_after (meaning b.price) (view b) s
-GrantOf meaning b s (Err r) = HasPrice (view b) s.client 0 → Lost (view b) s.former → ⊥
+abbrev pub GrantOf : {P : Type 0} {g : Ghosts P} → Broker P g → SlipNumbers → Result Grant Refusal → Type 0
+GrantOf b s (Ok g) = g ≡ grant_after (meaning b) (view b) s
+GrantOf b s (Err r) = HasPrice (view b) s.client 0 → Lost (view b) s.former → ⊥

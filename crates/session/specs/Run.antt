@@ -13,8 +13,14 @@
 -- Nexts       the next value, or none where nothing is left
 -- Gives       these are the values that a run gives one after another, until it gives none
 -- GivesAll    a run has given its values, until it gave none
+-- ended       the line of a value and its newline
+-- lines       these of several values, one after another
+-- PrintsRun   what a writer holds has grown by the lines of all that a run gives
+-- Serves      it has grown by the lines of all that is printed of an input on a new broker
 -- Fresh       whatever a new run gives is what is printed of its input on a new broker
 use Rattle.std.specs.Prelude.{◌≡◌, ℕ, zero, suc, ◌+◌, ◌-◌, ◌<◌, List, [], ◌∷◌, ◌++◌, length, Some, None, Option}
+use Rattle.std.specs.List.{flat_map}
+use Rattle.std.specs.Io.KnownBytes.{Appends}
 use Rattle.rules.specs.Offers.{Meaning}
 use Rattle.events.specs.Input.{Cut}
 use Rattle.laws.specs.Broker as rules
@@ -22,13 +28,15 @@ use Rattle.laws.specs.Broker.{holding}
 use Rattle.laws.specs.Histories as history
 use Rattle.laws.specs.Questions.{price_at}
 use Rattle.pool.specs.View.{NextClient}
-use Rattle.broker.specs.View.{view, Kept, Led, Guaranteed}
+use Rattle.broker.specs.View.{meaning, view, Led, Guaranteed}
+use Rattle.price.specs.declared.telling.Price.{Ghosts}
 use Rattle.session.specs.declared.printed.Held.{Held}
 use Rattle.session.specs.declared.printed.Printed.{Printed}
 use Rattle.session.specs.declared.printed.Printed.TheVariants as line
 use Rattle.session.specs.declared.run.Stage.{Stage}
 use Rattle.session.specs.declared.run.Stage.TheVariants as stage
 pub use Rattle.session.specs.declared.run.Run.{Run}
+use Rattle.session.specs.Printed.{printed_line}
 use Rattle.session.specs.Session.{LinePrints}
 
 abbrev pub held_at : Meaning → rules.Broker → ℕ → ℕ → Option Held
@@ -51,44 +59,63 @@ abbrev pub StillAt : Meaning → rules.Broker → ℕ → List ℕ → Stage →
 StillAt m b n rest stage.Reading vs = (texts : List (List ℕ)) × Cut rest texts × PrintsAll m b (n + 1) texts vs
 StillAt m b n rest (stage.Reporting after) vs = Reports m b after vs
 
-abbrev pub StillPrints : {P : Type 0} → (P → Meaning) → Run P → List Printed → Type 0
-StillPrints meaning r vs = StillAt (meaning r.session.broker.price) (view r.session.broker) r.number r.lines.rest.now r.stage vs
+abbrev pub StillPrints : {P : Type 0} {g : Ghosts P} → Run P g → List Printed → Type 0
+StillPrints r vs = StillAt (meaning r.session.broker) (view r.session.broker) r.number r.lines.rest.now r.stage vs
 
 abbrev pub left_at : ℕ → Stage → ℕ
 left_at n stage.Reading = n + 258
 left_at n (stage.Reporting after) = 257 - after
 
-abbrev pub left : {P : Type 0} → Run P → ℕ
+abbrev pub left : {P : Type 0} {g : Ghosts P} → Run P g → ℕ
 left r = left_at (length r.lines.rest.now) r.stage
 
 -- Whatever is printed after a value is printed behind it.
-abbrev pub NextPrints : {P : Type 0} → (P → Meaning) → Run P → Option Printed → Run P → Type 0
-NextPrints meaning before (Some v) after = (vs : List Printed) → StillPrints meaning after vs → StillPrints meaning before (v ∷ vs)
-NextPrints meaning before None after = StillPrints meaning before [] × StillPrints meaning after []
+abbrev pub NextPrints : {P : Type 0} {g : Ghosts P} → Run P g → Option Printed → Run P g → Type 0
+NextPrints before (Some v) after = (vs : List Printed) → StillPrints after vs → StillPrints before (v ∷ vs)
+NextPrints before None after = StillPrints before [] × StillPrints after []
 
-abbrev pub Falls : {P : Type 0} → Run P → Option Printed → Run P → Type 0
+abbrev pub Falls : {P : Type 0} {g : Ghosts P} → Run P g → Option Printed → Run P g → Type 0
 Falls before (Some v) after = left after < left before
 Falls before None after = Unit {0}
 
-pub record Nexts {P : Type 0} (meaning : P → Meaning) (before : Run P) (r : Option Printed) (after : Run P) : Type 0 where
-  pub prints : Kept meaning before.session.broker → NextPrints meaning before r after
-  pub kept : Kept meaning before.session.broker → Kept meaning after.session.broker
+pub record Nexts {P : Type 0} {g : Ghosts P} (before : Run P g) (r : Option Printed) (after : Run P g) : Type 0 where
+  pub prints : NextPrints before r after
   pub price : after.session.broker.price ≡ before.session.broker.price
   pub falls : Falls before r after
   -- whatever calls led to the broker as it came, with those of this line they lead to the broker as it is left
-  pub history : (h : List history.Event) → Led meaning h before.session.broker → (calls : List history.Event) × Led meaning (calls ++ h) after.session.broker
+  pub history : (h : List history.Event) → Led h before.session.broker → (calls : List history.Event) × Led (calls ++ h) after.session.broker
 
-pub data Gives {P : Type 0} (meaning : P → Meaning) : Run P → List Printed → Type 0 where
-  none : {before after : Run P} → Nexts meaning before None after → Gives meaning before []
-  some : {before after : Run P} {v : Printed} {vs : List Printed} → Nexts meaning before (Some v) after → Gives meaning after vs → Gives meaning before (v ∷ vs)
+pub data Gives {P : Type 0} {g : Ghosts P} : Run P g → List Printed → Type 0 where
+  none : {before after : Run P g} → Nexts before None after → Gives before []
+  some : {before after : Run P g} {v : Printed} {vs : List Printed} → Nexts before (Some v) after → Gives after vs → Gives before (v ∷ vs)
 
-pub record Fresh {P : Type 0} (meaning : P → Meaning) (under : P) (input : List ℕ) (r : Run P) : Type 0 where
-  pub led : Led meaning [] r.session.broker
-  pub guarantees : Guaranteed (meaning under)
+pub record Fresh {P : Type 0} {g : Ghosts P} (under : P) (input : List ℕ) (r : Run P g) : Type 0 where
+  pub led : Led [] r.session.broker
+  pub guarantees : Guaranteed (g.meaning under)
   pub price : r.session.broker.price ≡ under
-  pub prints : (vs : List Printed) (texts : List (List ℕ)) → Gives meaning r vs → Cut input texts → PrintsAll (meaning under) rules.new_broker 1 texts vs
+  -- the input consists of some lines
+  pub cut : (vs : List Printed) → Gives r vs → (texts : List (List ℕ)) × Cut input texts
+  pub prints : (vs : List Printed) (texts : List (List ℕ)) → Gives r vs → Cut input texts → PrintsAll (g.meaning under) rules.new_broker 1 texts vs
   -- and nothing else is
-  pub only : (vs ws : List Printed) (texts : List (List ℕ)) → Gives meaning r vs → Cut input texts → PrintsAll (meaning under) rules.new_broker 1 texts ws → ws ≡ vs
+  pub only : (vs ws : List Printed) (texts : List (List ℕ)) → Gives r vs → Cut input texts → PrintsAll (g.meaning under) rules.new_broker 1 texts ws → ws ≡ vs
 
-abbrev pub GivesAll : {P : Type 0} → (P → Meaning) → Run P → Type 0
-GivesAll meaning r = (vs : List Printed) × Gives meaning r vs
+abbrev pub GivesAll : {P : Type 0} {g : Ghosts P} → Run P g → Type 0
+GivesAll r = (vs : List Printed) × Gives r vs
+
+abbrev pub ended : Printed → List ℕ
+ended v = printed_line v ++ 10 ∷ []
+
+abbrev pub lines : List Printed → List ℕ
+lines vs = flat_map ended vs
+
+pub record PrintsRun {P : Type 0} {g : Ghosts P} (r : Run P g) (before after : Option (List ℕ)) : Type 0 where
+  pub all : List Printed
+  pub gives : Gives r all
+  pub prints : Appends before after (lines all)
+
+pub record Serves (m : Meaning) (input : List ℕ) (before after : Option (List ℕ)) : Type 0 where
+  pub texts : List (List ℕ)
+  pub all : List Printed
+  pub cut : Cut input texts
+  pub prints : PrintsAll m rules.new_broker 1 texts all
+  pub written : Appends before after (lines all)

@@ -7,7 +7,7 @@ mod printed;
 mod run;
 mod session;
 
-pub use print::print_all;
+pub use print::{print_all, serve};
 pub use printed::{Grant, Held, Printed, Taken};
 pub use run::Run;
 pub use session::Session;

@@ -1,31 +1,35 @@
-//! Printing a run.
-ghost use Rattle.session.specs.Run.{GivesAll};
-ghost use Rattle.std.specs.Prelude.{OnOk};
+//! Printing a run, and a whole run from the input to what is printed of it.
+ghost use Rattle.session.specs.Run.{PrintsRun, Serves};
+ghost use Rattle.std.specs.Prelude.{◌≡◌, ℕ, List, take, IfSome, OnOk};
 
-use crate::printed::Printed;
 use crate::run::Run;
+use events::read_input;
 use price::Price;
+use std::alloc::Global;
 use std::io;
-use std::io::Write;
-
-/// Prints the line of a value and its newline, put together in a buffer.
-fn print<W: Write>(value: Printed, buffer: &mut [u8; 129], out: &mut W) -> io::Result<()> {
-    match value.write(&mut buffer[0..128]) {
-        Ok(n) => {
-            buffer[n] = b'\n';
-            out.write_all(&buffer[0..n + 1])
-        }
-        Err(_) => unreachable(),
-    }
-}
+use std::io::{Read, Write};
+use text::Line;
 
 /// Prints all that a run gives, line by line.
-pub fn print_all<P: Price, W: Write>(run: &mut Run<P>, out: &mut W) -> io::Result<()>
-    ensures { OnOk result (GivesAll P.Price.meaning run.old) }
+pub fn print_all<P: Price + Drop, W: Write>(run: &mut Run<P>, out: &mut W) -> io::Result<()>
+    ensures { OnOk result (PrintsRun run.old (W.contents out.old) (W.contents out.new)) }
 {
-    let mut buffer = [0; 129];
-    while let Some(value) = run.next() {
-        print(value, &mut buffer, out)?;
+    for value in run {
+        value.print(out)?;
     }
     Ok(())
+}
+
+/// Reads an input, performs it on a new broker under a price, and prints what comes of each line, and the end report.
+pub fn serve<P: Price + Drop, R: Read + Drop, W: Write>(
+    price: P,
+    heap: Global,
+    from: R,
+    out: &mut W,
+) -> io::Result<()>
+    ensures { OnOk result ((input : List ℕ) × IfSome (R.remaining from) (λ bytes. input ≡ take 16_777_216 bytes) × Serves (P.Price.meaning price) input (W.contents out.old) (W.contents out.new)) }
+{
+    let input = read_input(heap, from)?;
+    print_all(&mut Run::new(price, &input), out)?;
+    out.flush()
 }

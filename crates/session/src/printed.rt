@@ -1,16 +1,15 @@
 //! The lines that a broker's program prints, each as a value.
-ghost use Rattle.std.specs.Prelude.{◌≤◌, length};
 ghost use Rattle.session.specs.Printed.{printed_line};
-ghost use Rattle.text.specs.Texts.{Placed};
 
 use events::LineFault;
-use rules::{Quote, Refusal};
+use rules::Quote;
+use text::{Line, Text};
 
 mod fields;
 mod priced;
 
-use fields::{write_field, write_pair};
-use priced::{write_client, write_grant};
+use fields::add_number;
+use priced::{add_client, add_grant};
 
 /// The client that a granted frame was taken from, and what that client paid for it.
 #[derive(Clone, Copy, Drop)]
@@ -60,30 +59,35 @@ pub enum Printed {
     Client { client: u32, held: Option<Held> },
 }
 
-impl Printed {
-    /// Writes the line, without a newline, to the front of a lent buffer and answers its length, at most 128. A buffer
-    /// too short for it stays as it was.
-    pub fn write(&self, out: &mut [u8]) -> Result<usize, Refusal>
-        ensures short { length (printed_line self.now) ≤ 128 }
-        ensures placed { Placed (printed_line self.now) out.old result out.new }
-    {
+impl Line for Printed {
+    ghost spelling = { printed_line };
+
+    fn line(&self) -> Text {
+        let mut text = Text::new();
         match *self {
-            Printed::Pool { unit, frames } => write_pair(b"pool ", unit, b" frames ", frames, out),
-            Printed::Admit { client } => write_field(b"admit ", client, out),
-            Printed::Grant(grant) => write_grant(grant, out),
-            Printed::Back { client, frame } => write_pair(b"back ", client, b" frame ", frame, out),
-            Printed::Leave { client, frames } => write_pair(
-                b"leave ",
-                client,
-                b" frames ",
-                frames,
-                out,
-            ),
-            Printed::Estimate { client } => write_field(b"estimate ", client, out),
-            Printed::Clock { tick, ended } => write_pair(b"clock ", tick, b" ended ", ended, out),
-            Printed::Refused(fault) => fault.write(out),
-            Printed::Free { frames } => write_field(b"end free ", frames, out),
-            Printed::Client { client, held } => write_client(client, held, out),
+            Printed::Pool { unit, frames } => {
+                add_number(&mut text, b"pool ", unit);
+                add_number(&mut text, b" frames ", frames);
+            }
+            Printed::Admit { client } => add_number(&mut text, b"admit ", client),
+            Printed::Grant(grant) => add_grant(&mut text, grant),
+            Printed::Back { client, frame } => {
+                add_number(&mut text, b"back ", client);
+                add_number(&mut text, b" frame ", frame);
+            }
+            Printed::Leave { client, frames } => {
+                add_number(&mut text, b"leave ", client);
+                add_number(&mut text, b" frames ", frames);
+            }
+            Printed::Estimate { client } => add_number(&mut text, b"estimate ", client),
+            Printed::Clock { tick, ended } => {
+                add_number(&mut text, b"clock ", tick);
+                add_number(&mut text, b" ended ", ended);
+            }
+            Printed::Refused(fault) => return fault.line(),
+            Printed::Free { frames } => add_number(&mut text, b"end free ", frames),
+            Printed::Client { client, held } => add_client(&mut text, client, held),
         }
+        text
     }
 }

@@ -2,11 +2,15 @@
 ghost use Rattle.std.specs.Prelude.{◌+◌, ◌^◌, ◌<◌, length};
 
 use crate::session::Session;
+use broker::Broker;
 use events::Lines;
+use price::Price;
+use std::marker::PhantomData;
 
 mod next;
 
 /// What is printed next: the next line's, or the next client's in the end report, above the one that was last.
+// Kept: one iterator over the lines and one over the clients, chained, would both hold the session.
 #[derive(Clone, Copy, Drop)]
 pub(crate) enum Stage {
     Reading,
@@ -16,10 +20,12 @@ pub(crate) enum Stage {
 /// The values that are printed for an input on a new broker, one for each line, and then the end report: the free frames,
 /// and each client by rising number.
 #[derive(Drop)]
-pub struct Run<'a, P> {
+pub struct Run<'a, P: Price> {
     session: Session<P>,
     lines: Lines<'a>,
     number: u64,
     stage: Stage,
+    // Kept: an iterator owes a drop, and that of a run is proved only where the run's own type names the broker's.
+    broker: PhantomData<Broker<P>>,
     ghost room: { number + length lines.rest.now < 2 ^ 64 },
 }

@@ -4,6 +4,7 @@ use rules::{Fault, FaultKind, Quote, Refusal};
 use session::{Grant, Held, Printed, Taken};
 use std::process::Abort;
 use std::test::Fail;
+use text::Line;
 
 // A price of class 0, and the largest numbers that a quote can have.
 const LOW: Quote = Quote {

@@ -3,6 +3,7 @@ use price::{ClassPrice, Price, SharePrice, TaxedPrice};
 use session::{Printed, Run, Session};
 use std::process::Abort;
 use std::test::Fail;
+use text::Line;
 
 // Whether a value is printed as this line.
 fn prints(rt: &impl Abort, value: Printed, line: &[u8]) -> Result<(), Fail> {
@@ -14,7 +15,7 @@ fn prints(rt: &impl Abort, value: Printed, line: &[u8]) -> Result<(), Fail> {
 }
 
 // Whether a run prints these lines, and then nothing more.
-fn runs<P: Price>(rt: &impl Abort, run: &mut Run<P>, lines: &[&[u8]]) -> Result<(), Fail> {
+fn runs<P: Price + Drop>(rt: &impl Abort, run: &mut Run<P>, lines: &[&[u8]]) -> Result<(), Fail> {
     for line in lines {
         match run.next() {
             Some(value) => prints(rt, value, *line)?,

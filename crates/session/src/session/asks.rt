@@ -13,7 +13,7 @@ impl<P: Price> Session<P> {
     // The price of a client at its holding and a frame more, or none.
     fn price(&self, client: u32, more: u32) -> Result<Quote, Refusal>
         requires { more ≤ 1 }
-        ensures { Priced P.Price.meaning self.now.broker client more result }
+        ensures { Priced self.now.broker client more result }
     {
         let holding = self.broker.holding(client)?;
         self.broker.price_at(client, holding + more)
@@ -21,7 +21,7 @@ impl<P: Price> Session<P> {
 
     // A client that lost a frame, and what it paid before.
     fn loser(&self, former: u32) -> Result<Taken, Refusal>
-        ensures { LostBy P.Price.meaning self.now.broker former result }
+        ensures { LostBy self.now.broker former result }
     {
         let over = self.price(former, 1)?;
         Ok(Taken { from: former, over })
@@ -29,17 +29,17 @@ impl<P: Price> Session<P> {
 
     // From whom a frame was taken: nobody where it was free.
     fn taken(&self, former: u32) -> Result<Option<Taken>, Refusal>
-        ensures { TakenFrom P.Price.meaning self.now.broker former result }
+        ensures { TakenFrom self.now.broker former result }
     {
         if former == 0 {
             return Ok(None);
         }
-        Ok(Some(self.loser(former)?))
+        self.loser(former).map(Some)
     }
 
     // What is printed of a slip just granted.
     fn grant(&self, slip: SlipNumbers) -> Result<Grant, Refusal>
-        ensures { GrantOf P.Price.meaning self.now.broker slip result }
+        ensures { GrantOf self.now.broker slip result }
     {
         let paying = self.price(slip.client, 0)?;
         let taken = self.taken(slip.former)?;
@@ -53,7 +53,7 @@ impl<P: Price> Session<P> {
 
     // Asks for a frame, and delivers the slip at once.
     pub(crate) fn ask(&mut self, client: u32) -> Result<Printed, Refusal>
-        ensures { Performed P.Price.meaning self.old.broker (Ask client) result self.new.broker }
+        ensures { Performed self.old.broker (Ask client) result self.new.broker }
     {
         let slip = self.broker.ask(client)?;
         let grant = self.grant(slip.numbers());

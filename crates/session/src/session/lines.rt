@@ -1,7 +1,7 @@
 //! What is printed of a line.
 ghost use Rattle.std.specs.Prelude.{◌≡◌};
 ghost use Rattle.laws.specs.Broker.{new_broker};
-ghost use Rattle.broker.specs.View.{view, Kept, Guaranteed};
+ghost use Rattle.broker.specs.View.{meaning, view, Guaranteed};
 ghost use Rattle.session.specs.Session.{numbered as told, Performed, Judged, Lined};
 
 use super::Session;
@@ -15,21 +15,19 @@ use rules::Refusal;
 fn numbered(number: u64, outcome: Result<Printed, Refusal>) -> Printed
     ensures { result ≡ told number outcome }
 {
-    match outcome {
-        Ok(printed) => printed,
-        Err(refusal) => Printed::Refused(LineFault {
+    outcome.unwrap_or_else(|refusal| {
+        Printed::Refused(LineFault {
             line: number,
             refusal,
-        }),
-    }
+        })
+    })
 }
 
 impl<P: Price> Session<P> {
     /// A session on a new broker under a price.
     pub fn new(price: P) -> Session<P>
         ensures view { view result.broker ≡ new_broker }
-        ensures kept { Kept P.Price.meaning result.broker }
-        ensures guarantees { Guaranteed (P.Price.meaning result.broker.price) }
+        ensures guarantees { Guaranteed (meaning result.broker) }
         ensures price { result.broker.price ≡ price }
     {
         Session {
@@ -39,32 +37,22 @@ impl<P: Price> Session<P> {
 
     /// Performs an event, and answers what is printed of it. An event that the broker refuses changes nothing.
     pub fn perform(&mut self, event: Event) -> Result<Printed, Refusal>
-        ensures { Performed P.Price.meaning self.old.broker event result self.new.broker }
+        ensures { Performed self.old.broker event result self.new.broker }
     {
         match event {
             Event::Start { unit, frames } => self.start(unit, frames),
-            Event::Admit {
-                client,
-                shares,
-                class,
-                minimum,
-                maximum,
-            } => self.admit(client, shares, class, minimum, maximum),
+            Event::Admit(asked) => self.admit(asked),
             Event::Ask { client } => self.ask(client),
             Event::HandBack { client } => self.hand_back(client),
             Event::Leave { client } => self.leave(client),
-            Event::Estimate {
-                client,
-                active,
-                end,
-            } => self.estimate(client, active, end),
+            Event::Estimate { client, estimate } => self.estimate(client, estimate),
             Event::Clock { tick } => self.clock(tick),
         }
     }
 
     // Performs the event that a line says. A malformed line changes nothing.
     fn judge(&mut self, line: &[u8]) -> Result<Printed, Refusal>
-        ensures { Judged P.Price.meaning self.old.broker line.now result self.new.broker }
+        ensures { Judged self.old.broker line.now result self.new.broker }
     {
         let event = read(line)?;
         self.perform(event)
@@ -73,7 +61,7 @@ impl<P: Price> Session<P> {
     /// Performs the event that a line says, and answers what is printed of the line: a refusal, the reader's or the
     /// broker's, with the line's number.
     pub fn line(&mut self, number: u64, line: &[u8]) -> Printed
-        ensures { Lined P.Price.meaning number self.old.broker line.now result self.new.broker }
+        ensures { Lined number self.old.broker line.now result self.new.broker }
     {
         numbered(number, self.judge(line))
     }

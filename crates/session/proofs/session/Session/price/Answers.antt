@@ -13,4 +13,4 @@ pub overflow_add-holding : goal.overflow_add-holding
 overflow_add-holding g c = omega (arith, few_held c.args.self.now.broker.pool c.args.client, c.in_ok-holding.ensures.1, c.requires)
 
 pub returns : goal.returns
-returns g c = price_asked g.P.Price.meaning c.args.self.now.broker c.args.client c.in_ok-holding.holding c.args.more c.in_ok-holding.ensures.1 c.price_at.result c.price_at.ensures
+returns g c = price_asked c.args.self.now.broker c.args.client c.in_ok-holding.holding c.args.more c.in_ok-holding.ensures.1 c.price_at.result c.price_at.ensures
