@@ -15,8 +15,8 @@ use Rattle.ledger.specs.declared.ledger.Ledger.{Ledger}
 use Rattle.ledger.specs.Ledgers.{stack_of}
 use Rattle.ledger.specs.Stacks.{Moved, Freed}
 use Rattle.pool.specs.Members.{Member}
-use Rattle.pool.specs.View.{client_of}
-use Rattle.pool.proofs.Views.{clients_of, seen, same_parts}
+use Rattle.pool.specs.View.{Pool, view, client_of}
+use Rattle.pool.proofs.Views.{clients_of, seen_with, same_parts}
 use Rattle.pool.proofs.Tables.{set_clients}
 
 -- a client with its stack
@@ -41,16 +41,14 @@ moved_clients xs s t c others = fun_ext (each_but c P here off)
     off : (d : ℕ) → d ≢ c → P d
     off d ne = same d ne ∙ sym (put_off (clients_of xs s) c (client_of (by_number xs c) (t c)) d ne)
 
-pub hand_back_step : (m : Meaning) (u t n : ℕ) (p : Option SlipNumbers) (xs : List (Option Member)) (l k : Ledger) (c f : ℕ) (x : Member) → by_number xs c ≡ Some x →
-    Moved (stack_of l) (stack_of k) c 0 f → k.frames ≡ l.frames →
-    IsClear m (seen u t n p xs l) (Leave c) → Step m (seen u t n p xs l) (HandBack c) (Ok (Frame f)) (seen u t n p xs k)
-hand_back_step m u t n p xs l k c f x e v same clear =
-    let b = seen u t n p xs l in
-    let it : b.clients c ≡ Some (client_with x (stack_of l c)) = ap (λ (o : Option Member). client_of o (stack_of l c)) e in
-    let some : rules.holding b c ≡ 0 → ⊥ = λ z. let a = ap (λ (o : Option rules.Client). length (rules.stack_of o)) it in let q = ap length v.taken in omega (arith, z, a, q) in
-    let after = moved_clients xs (stack_of l) (stack_of k) c (λ d a o. v.others d o a) ∙ ap (λ (o : Option Member). put b.clients c (client_of o (stack_of k c))) e in
-    subst (λ (d : rules.Broker). Step m b (HandBack c) (Ok (Frame f)) d) (sym (same_parts u k.frames t n p same v.given after))
-    (handed_back {x = client_with x (stack_of l c)} (clear.0, (clear.1.0, (clear.1.1.0, (some, tt)))) it v.taken)
+pub hand_back_step : (m : Meaning) (b : Pool) (k : Ledger) (c f : ℕ) (x : Member) → by_number b.members c ≡ Some x → Moved (stack_of b.ledger) (stack_of k) c 0 f → k.frames ≡ b.ledger.frames →
+    IsClear m (view b) (Leave c) → Step m (view b) (HandBack c) (Ok (Frame f)) (seen_with b b.members k)
+hand_back_step m b k c f x e v same clear =
+    let it : (view b).clients c ≡ Some (client_with x (stack_of b.ledger c)) = ap (λ (o : Option Member). client_of o (stack_of b.ledger c)) e in
+    let some : rules.holding (view b) c ≡ 0 → ⊥ = λ z. let a = ap (λ (o : Option rules.Client). length (rules.stack_of o)) it in let q = ap length v.taken in omega (arith, z, a, q) in
+    let after = moved_clients b.members (stack_of b.ledger) (stack_of k) c (λ d a o. v.others d o a) ∙ ap (λ (o : Option Member). put (view b).clients c (client_of o (stack_of k c))) e in
+    subst (λ (d : rules.Broker). Step m (view b) (HandBack c) (Ok (Frame f)) d) (sym (same_parts b.unit k.frames b.tick b.asks b.passage same v.given after))
+    (handed_back {x = client_with x (stack_of b.ledger c)} (clear.0, (clear.1.0, (clear.1.1.0, (some, tt)))) it v.taken)
 
 put_again : {A : Type 0} (g : ℕ → A) (c : ℕ) (a b : A) → put (put g c a) c b ≡ put g c b
 put_again {A = A} g c a b = fun_ext (each_but c P here off)
@@ -64,29 +62,29 @@ put_again {A = A} g c a b = fun_ext (each_but c P here off)
     off : (d : ℕ) → d ≢ c → P d
     off d ne = put_off (put g c a) c b d ne ∙ (put_off g c a d ne ∙ sym (put_off g c b d ne))
 
-pub leave_step : (m : Meaning) (u t n : ℕ) (p : Option SlipNumbers) (xs : List (Option Member)) (l k : Ledger) (c r : ℕ) (x : Member) → length xs ≡ 256 → by_number xs c ≡ Some x →
-    Freed (stack_of l) (stack_of k) c r → k.frames ≡ l.frames →
-    IsClear m (seen u t n p xs l) (Leave c) → Step m (seen u t n p xs l) (Leave c) (Ok (Count r)) (seen u t n p (set xs (c - 1) None) k)
-leave_step m u t n p xs l k c r x long e v same clear =
-    let b = seen u t n p xs l in
+pub leave_step : (m : Meaning) (b : Pool) (k : Ledger) (c r : ℕ) (x : Member) → by_number b.members c ≡ Some x → Freed (stack_of b.ledger) (stack_of k) c r → k.frames ≡ b.ledger.frames →
+    IsClear m (view b) (Leave c) → Step m (view b) (Leave c) (Ok (Count r)) (seen_with b (set b.members (c - 1) None) k)
+leave_step m b k c r x e v same clear =
+    let s = stack_of b.ledger in
     let in_table = inside 1 256 c clear.0 in
     let i : c ≡ suc (c - 1) = omega (arith, in_table) in
-    let it : b.clients c ≡ Some (client_with x (stack_of l c)) = ap (λ (o : Option Member). client_of o (stack_of l c)) e in
-    let after = set_clients xs (stack_of k) c (c - 1) None i (omega (arith, in_table, long)) ∙ (ap (λ (f : ℕ → Option rules.Client). put f c None) (moved_clients xs (stack_of l) (stack_of k) c (λ d a o. v.others d a o)) ∙ put_again b.clients c (client_of (by_number xs c) (stack_of k c)) None) in
-    let whole = subst (λ (d : rules.Broker). Step m b (Leave c) (Ok (Count (length (stack_of l c)))) d) (sym (same_parts u k.frames t n p same v.free after)) (left {x = client_with x (stack_of l c)} clear it) in
-    subst (λ (q : ℕ). Step m b (Leave c) (Ok (Count q)) (seen u t n p (set xs (c - 1) None) k)) (sym v.counted) whole
+    let it : (view b).clients c ≡ Some (client_with x (s c)) = ap (λ (o : Option Member). client_of o (s c)) e in
+    let gone = ap (λ (f : ℕ → Option rules.Client). put f c None) (moved_clients b.members s (stack_of k) c (λ d a o. v.others d a o)) in
+    let after = set_clients b.members (stack_of k) c (c - 1) None i (omega (arith, in_table, b.places)) ∙ (gone ∙ put_again (view b).clients c (client_of (by_number b.members c) (stack_of k c)) None) in
+    let whole = subst (λ (d : rules.Broker). Step m (view b) (Leave c) (Ok (Count (length (s c)))) d) (sym (same_parts b.unit k.frames b.tick b.asks b.passage same v.free after)) (left {x = client_with x (s c)} clear it) in
+    subst (λ (q : ℕ). Step m (view b) (Leave c) (Ok (Count q)) (seen_with b (set b.members (c - 1) None) k)) (sym v.counted) whole
 
-pub estimate_step : (m : Meaning) (u t n : ℕ) (p : Option SlipNumbers) (xs : List (Option Member)) (l : Ledger) (c : ℕ) (v : Estimate) (x y : Member) → length xs ≡ 256 → by_number xs c ≡ Some x →
-    IsClear m (seen u t n p xs l) (SetEstimate c v) → client_with y (stack_of l c) ≡ with_estimate (client_with x (stack_of l c)) (Some v) →
-    Step m (seen u t n p xs l) (SetEstimate c v) (Ok Done) (seen u t n p (set xs (c - 1) (Some y)) l)
-estimate_step m u t n p xs l c v x y long e clear with_it =
-    let b = seen u t n p xs l in
+pub estimate_step : (m : Meaning) (b : Pool) (c : ℕ) (v : Estimate) (x y : Member) → by_number b.members c ≡ Some x → IsClear m (view b) (SetEstimate c v) →
+    client_with y (stack_of b.ledger c) ≡ with_estimate (client_with x (stack_of b.ledger c)) (Some v) →
+    Step m (view b) (SetEstimate c v) (Ok Done) (seen_with b (set b.members (c - 1) (Some y)) b.ledger)
+estimate_step m b c v x y e clear with_it =
+    let s = stack_of b.ledger in
     let in_table = inside 1 256 c clear.0 in
     let i : c ≡ suc (c - 1) = omega (arith, in_table) in
-    let it : b.clients c ≡ Some (client_with x (stack_of l c)) = ap (λ (o : Option Member). client_of o (stack_of l c)) e in
-    let after = set_clients xs (stack_of l) c (c - 1) (Some y) i (omega (arith, in_table, long)) ∙ ap (λ (z : rules.Client). put b.clients c (Some z)) with_it in
-    subst (λ (d : rules.Broker). Step m b (SetEstimate c v) (Ok Done) d) (sym (same_parts u l.frames t n p refl refl after))
-    (estimated {x = client_with x (stack_of l c)} clear it)
+    let it : (view b).clients c ≡ Some (client_with x (s c)) = ap (λ (o : Option Member). client_of o (s c)) e in
+    let after = set_clients b.members s c (c - 1) (Some y) i (omega (arith, in_table, b.places)) ∙ ap (λ (z : rules.Client). put (view b).clients c (Some z)) with_it in
+    subst (λ (d : rules.Broker). Step m (view b) (SetEstimate c v) (Ok Done) d) (sym (same_parts b.unit b.ledger.frames b.tick b.asks b.passage refl refl after))
+    (estimated {x = client_with x (s c)} clear it)
 
 -- what every call of an admitted client is refused for is refused for in each of them
 first_more : (es fs : List Entry) (r : Refusal) → First es r → First (es ++ fs) r
@@ -98,8 +96,8 @@ pub refused_hand_back : (m : Meaning) (b : rules.Broker) (c : ℕ) (r : Refusal)
 refused_hand_back m b c r h = first_more (entries m b (Leave c)) (entry HoldsNoFrame (rules.holding b c ≡ 0) ∷ []) r h
 
 -- a client with an empty stack holds no frame
-pub refused_empty : (m : Meaning) (u t n : ℕ) (p : Option SlipNumbers) (xs : List (Option Member)) (l : Ledger) (c : ℕ) (x : Member) → by_number xs c ≡ Some x → stack_of l c ≡ [] →
-    IsClear m (seen u t n p xs l) (Leave c) → RefusedBy m (seen u t n p xs l) (HandBack c) HoldsNoFrame
-refused_empty m u t n p xs l c x e f clear =
-    let none = ap (λ (o : Option Member). length (rules.stack_of (client_of o (stack_of l c)))) e ∙ ap length f in
+pub refused_empty : (m : Meaning) (b : Pool) (c : ℕ) (x : Member) → by_number b.members c ≡ Some x → stack_of b.ledger c ≡ [] →
+    IsClear m (view b) (Leave c) → RefusedBy m (view b) (HandBack c) HoldsNoFrame
+refused_empty m b c x e f clear =
+    let none = ap (λ (o : Option Member). length (rules.stack_of (client_of o (stack_of b.ledger c)))) e ∙ ap length f in
     inr (clear.0, inr (clear.1.0, inr (clear.1.1.0, inl (none, refl))))

@@ -7,6 +7,5 @@ pub mod Grants
 pub mod Ticks
 pub mod Clocks
 pub mod Firsts
-pub mod Noted
 pub mod Drops
 pub mod Nexts

@@ -13,7 +13,8 @@ use Rattle.ledger.specs.declared.ledger.Ledger.{Ledger}
 use Rattle.ledger.specs.Ledgers.{stack_of, Started}
 use Rattle.ledger.proofs.Ledgers.{holding_few, no_owner}
 use Rattle.pool.specs.declared.member.Member.{Member}
-use Rattle.pool.specs.View.{client_of}
+use Rattle.pool.specs.Members.{end_in, EndsNoted}
+use Rattle.pool.specs.View.{Pool, view, client_of}
 use Rattle.pool.proofs.Views.{clients_of, seen, same_parts, same_clients}
 
 -- a table of one value has it at each place, and past its end
@@ -42,11 +43,17 @@ no_stack l e o =
       | inr h ↦ no_owner l o h
     ]
 
-pub start_step : (m : Meaning) (v t n : ℕ) (p : Option SlipNumbers) (xs : List (Option Member)) (l k : Ledger) (u F : ℕ) → Started l k F →
-    IsClear m (seen v t n p xs l) (Start u F) → Step m (seen v t n p xs l) (Start u F) (Ok Done) (seen u t n p xs k)
-start_step m v t n p xs l k u F s clear =
-    let e = same_parts u k.frames t n p s.frames (s.filled.free ∙ counted 1 F) (same_clients xs (stack_of k) (stack_of l) (λ i. s.filled.others (suc i) (λ z. omega arith) ∙ sym (no_stack l s.none_before (suc i)))) in
-    subst (λ (d : rules.Broker). Step m (seen v t n p xs l) (Start u F) (Ok Done) d) (sym e) (started clear)
+pub start_step : (m : Meaning) (b : Pool) (k : Ledger) (u F : ℕ) → Started b.ledger k F → IsClear m (view b) (Start u F) →
+    Step m (view b) (Start u F) (Ok Done) (seen u b.tick b.asks b.passage b.members k)
+start_step m b k u F s clear =
+    let e = same_parts u k.frames b.tick b.asks b.passage s.frames (s.filled.free ∙ counted 1 F)
+    (same_clients b.members (stack_of k) (stack_of b.ledger) (λ i. s.filled.others (suc i) (λ z. omega arith) ∙ sym (no_stack b.ledger s.none_before (suc i)))) in
+    subst (λ (d : rules.Broker). Step m (view b) (Start u F) (Ok Done) d) (sym e) (started clear)
+
+-- an empty table, and no end
+pub new_noted : (n : ℕ) (es : ℕ → Option ℕ) → ((c : ℕ) → es c ≡ None) → EndsNoted (replicate n None) es
+new_noted n es none zero = none 0
+new_noted n es none (suc i) = none (suc i) ∙ sym (ap end_in (same_at n i None))
 
 -- what a clause says of a result whose variant is known
 pub at_ok : {T E : Type 0} (P : T → Type 0) (Q : E → Type 0) (r : Result T E) → true ≡ is_ok r → MatchResult r P Q → (x : T) × P x

@@ -11,11 +11,10 @@ use Rattle.laws.proofs.Kept.{none_some, inside}
 use Rattle.laws.proofs.Puts.{put_at, put_off, each_but}
 use Rattle.laws.proofs.Sums.{at_le_upto}
 use Rattle.laws.proofs.Table.{number_set}
-use Rattle.ledger.specs.declared.ledger.Ledger.{Ledger}
 use Rattle.ledger.specs.Ledgers.{stack_of}
-use Rattle.pool.specs.Members.{Member, NoStray}
-use Rattle.pool.specs.View.{client_of}
-use Rattle.pool.proofs.Views.{clients_of, seen, same_parts}
+use Rattle.pool.specs.Members.{Member}
+use Rattle.pool.specs.View.{Pool, view, client_of}
+use Rattle.pool.proofs.Views.{clients_of, seen_with, same_parts}
 
 -- changed in the table, changed among the clients
 pub set_clients : (xs : List (Option Member)) (s : ℕ → List ℕ) (c i : ℕ) (v : Option Member) → c ≡ suc i → i < length xs →
@@ -48,14 +47,15 @@ shares_among xs s c x i e =
     omega (arith, one, its)
 
 -- what is noted of a new client makes it the newcomer that the rules speak of
-pub admit_step : (m : Meaning) (u t n : ℕ) (p : Option SlipNumbers) (xs : List (Option Member)) (l : Ledger) (a : Admission) (x : Member) → length xs ≡ 256 → NoStray xs l →
-    ◌≡◌ {A = Option rules.Client} (client_of (Some x) []) (Some (newcomer a)) → IsClear m (seen u t n p xs l) (Admit a) →
-    Step m (seen u t n p xs l) (Admit a) (Ok Done) (seen u t n p (set xs (a.client - 1) (Some x)) l)
-admit_step m u t n p xs l a x long stray new clear =
+pub admit_step : (m : Meaning) (b : Pool) (a : Admission) (x : Member) → ◌≡◌ {A = Option rules.Client} (client_of (Some x) []) (Some (newcomer a)) →
+    IsClear m (view b) (Admit a) → Step m (view b) (Admit a) (Ok Done) (seen_with b (set b.members (a.client - 1) (Some x)) b.ledger)
+admit_step m b a x new clear =
     let c = a.client in
+    let s = stack_of b.ledger in
     let h = inside 1 256 c clear.0 in
     let i : c ≡ suc (c - 1) = omega (arith, h) in
-    let none : by_number xs c ≡ None = not_there (by_number xs c) (stack_of l c) clear.1.1.1.1.1.0 in
-    let empty : stack_of l c ≡ [] = subst (λ (d : ℕ). stack_of l d ≡ []) (sym i) (stray (c - 1) (subst (λ (d : ℕ). by_number xs d ≡ None) i none)) in
-    let after = set_clients xs (stack_of l) c (c - 1) (Some x) i (omega (arith, h, long)) ∙ (ap (λ (fs : List ℕ). put (clients_of xs (stack_of l)) c (client_of (Some x) fs)) empty ∙ ap (put (clients_of xs (stack_of l)) c) new) in
-    subst (λ (d : rules.Broker). Step m (seen u t n p xs l) (Admit a) (Ok Done) d) (sym (same_parts u l.frames t n p refl refl after)) (admitted clear)
+    let none : by_number b.members c ≡ None = not_there (by_number b.members c) (s c) clear.1.1.1.1.1.0 in
+    let empty : s c ≡ [] = subst (λ (d : ℕ). s d ≡ []) (sym i) (b.stray (c - 1) (subst (λ (d : ℕ). by_number b.members d ≡ None) i none)) in
+    let with_it = ap (λ (fs : List ℕ). put (view b).clients c (client_of (Some x) fs)) empty ∙ ap (put (view b).clients c) new in
+    let after = set_clients b.members s c (c - 1) (Some x) i (omega (arith, h, b.places)) ∙ with_it in
+    subst (λ (d : rules.Broker). Step m (view b) (Admit a) (Ok Done) d) (sym (same_parts b.unit b.ledger.frames b.tick b.asks b.passage refl refl after)) (admitted clear)

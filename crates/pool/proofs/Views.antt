@@ -10,7 +10,7 @@ use Rattle.laws.specs.ByNumber.{by_number}
 use Rattle.ledger.specs.declared.ledger.Ledger.{Ledger}
 use Rattle.ledger.specs.Ledgers.{stack_of}
 use Rattle.pool.specs.declared.member.Member.{Member}
-use Rattle.pool.specs.View.{client_of}
+use Rattle.pool.specs.View.{Pool, client_of}
 
 -- the clients that a table and stacks make
 abbrev pub clients_of : List (Option Member) → (ℕ → List ℕ) → ℕ → Option rules.Client
@@ -20,6 +20,10 @@ clients_of xs s c = client_of (by_number xs c) (s c)
 abbrev pub seen : ℕ → ℕ → ℕ → Option SlipNumbers → List (Option Member) → Ledger → rules.Broker
 seen u t n p xs l =
     record { unit = u; frames = l.frames; tick = t; asks = n; free = stack_of l 0; clients = clients_of xs (stack_of l); passage = p }
+
+-- a pool with another table and another ledger
+abbrev pub seen_with : Pool → List (Option Member) → Ledger → rules.Broker
+seen_with b xs l = seen b.unit b.tick b.asks b.passage xs l
 
 pub same_parts : (u F t n : ℕ) (p : Option SlipNumbers) {G : ℕ} {fs gs : List ℕ} {cs ds : ℕ → Option rules.Client} → F ≡ G → fs ≡ gs → cs ≡ ds →
     ◌≡◌ {A = rules.Broker} (record { unit = u; frames = F; tick = t; asks = n; free = fs; clients = cs; passage = p }) (record { unit = u; frames = G; tick = t; asks = n; free = gs; clients = ds; passage = p })

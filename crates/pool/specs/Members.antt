@@ -5,9 +5,8 @@
 -- NoStray        a client that is not admitted has no frames
 -- estimate_end   the tick at which an estimate ends, if there is one
 -- end_in         the tick at which the estimate that is noted in a place ends, if there is one
--- same_tick      two ticks, or none, are the same
 -- EndsNoted      the ends that are kept are those of the estimates in the table
-use Rattle.std.specs.Prelude.{◌≡◌, ℕ, suc, Bool, true, false, List, [], Some, None, Option, ◌==◌, slice_index_or}
+use Rattle.std.specs.Prelude.{◌≡◌, ℕ, suc, List, [], Some, None, Option, slice_index_or}
 use Rattle.rules.specs.declared.offer.Offer.{Offer}
 use Rattle.laws.specs.ByNumber.{by_number}
 use Rattle.laws.specs.Broker.{Estimate, active_of}
@@ -30,11 +29,5 @@ abbrev pub end_in : Option Member → Option ℕ
 end_in (Some x) = estimate_end x.estimate
 end_in None = None
 
-abbrev pub same_tick : Option ℕ → Option ℕ → Bool
-same_tick (Some s) (Some t) = s == t
-same_tick None None = true
-same_tick (Some s) None = false
-same_tick None (Some t) = false
-
 abbrev pub EndsNoted : List (Option Member) → (ℕ → Option ℕ) → Type 0
-EndsNoted xs es = (c : ℕ) → same_tick (es c) (end_in (by_number xs c)) ≡ true
+EndsNoted xs es = (c : ℕ) → es c ≡ end_in (by_number xs c)

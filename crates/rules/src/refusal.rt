@@ -6,13 +6,13 @@ ghost use Rattle.rules.specs.Numbers.{kind_number, number, Malformed};
 #[derive(Clone, Copy, PartialEq, Eq, Debug, Drop)]
 pub enum FaultKind {
     /// The line does not begin with one of the event letters.
-    Letter,
+    Letter = 1,
     /// A space is due, and something else is there, or the end.
-    Space,
+    Space = 2,
     /// A number is due, and no digit is there, or the number has a leading zero or is too large.
-    Number,
+    Number = 3,
     /// The line goes on after its last number.
-    Excess,
+    Excess = 4,
 }
 
 impl FaultKind {
@@ -20,12 +20,7 @@ impl FaultKind {
     pub fn number(&self) -> u8
         ensures { result ≡ kind_number self.now }
     {
-        match self {
-            FaultKind::Letter => 1,
-            FaultKind::Space => 2,
-            FaultKind::Number => 3,
-            FaultKind::Excess => 4,
-        }
+        *self as u8
     }
 }
 
@@ -90,6 +85,7 @@ impl Refusal {
     pub fn number(&self) -> u8
         ensures { result ≡ number self.now }
     {
+        // Kept: a number stands beside a variant only where no variant holds anything, and `Malformed` holds its fault (refused: unsupported-discriminant).
         match self {
             Refusal::PoolOutOfRange => 1,
             Refusal::ClientOutOfRange => 2,

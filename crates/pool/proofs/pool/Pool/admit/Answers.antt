@@ -9,4 +9,4 @@ returns-in_err-admissible c = λ m. (refused_exit _ _ c.from_residual.result c.f
 pub returns : goal.returns
 returns c =
     let b = c.args.self.now in
-    λ m. (admit_step m b.unit b.tick b.asks b.passage b.members b.ledger c.args.asked _ b.places b.stray refl c.in_ok-admissible.ensures.0)
+    λ m. (admit_step m b c.args.asked _ refl c.in_ok-admissible.ensures.0)

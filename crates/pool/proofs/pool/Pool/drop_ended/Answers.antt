@@ -6,4 +6,4 @@ pub returns : goal.returns
 returns c =
     let b = c.args.self.now in
     let found = c.in_ok-client.ensures in
-    drop_one b.unit b.tick b.asks c.args.tick b.passage b.members b.ledger c.in_ok-client.client c.in_ok-client.member _ b.places found.0 found.1 found.2 refl
+    drop_one c.args.tick b c.in_ok-client.client c.in_ok-client.member _ found.0 found.1 found.2 refl

@@ -10,4 +10,4 @@ pub returns : goal.returns
 returns c =
     let b = c.args.self.now in
     let found = c.in_ok-member.ensures in
-    λ m. (estimate_step m b.unit b.tick b.asks b.passage b.members b.ledger c.args.client c.args.estimate c.in_ok-member.member _ b.places found.1 found.0 refl)
+    λ m. (estimate_step m b c.args.client c.args.estimate c.in_ok-member.member _ found.1 found.0 refl)

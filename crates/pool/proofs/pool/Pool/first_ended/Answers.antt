@@ -1,7 +1,5 @@
 use Rattle.std.proofs.Common.{arith}
 use Rattle.heap.specs.Indexed.{keys_in}
-use Rattle.ledger.specs.Ledgers.{stack_of}
-use Rattle.pool.specs.Ends.{end_of}
 use Rattle.pool.proofs.Ticks.{least_earliest}
 use Rattle.pool.proofs.Drops.{nobody_ends_yet}
 use Rattle.pool.proofs.pool.Pool.first_ended.Goals as goal
@@ -10,4 +8,4 @@ pub returns-then-tick-end : goal.returns-then-tick-end
 returns-then-tick-end c =
     let b = c.args.self.now in
     let first = c.in_ok-client.ensures in
-    nobody_ends_yet b.members (end_of b.ends) b.noted (stack_of b.ledger) c.args.tick c.in_ok-client.client c.in_ok-client.end.now.tick (least_earliest (keys_in b.ends) _ _ first.1) (omega (arith, c.if-tick-end.true))
+    nobody_ends_yet b c.args.tick c.in_ok-client.client c.in_ok-client.end.now.tick (least_earliest (keys_in b.ends) _ _ first.1) (omega (arith, c.if-tick-end.true))

@@ -11,4 +11,4 @@ returns-clause-grants c =
     let b = c.args.self.now in
     let after : SlipNumbers → Broker = λ s. seen b.unit b.tick s.asks (Some s) b.members c.move_top.new.self in
     λ m clear source ne. subst (λ (s : SlipNumbers). Step m (view b) (Ask c.args.client) (Ok (Granted s)) (after s)) (sym c.next_slip-slip.ensures)
-    (grant_step m b.unit b.tick b.asks b.passage b.members b.ledger c.move_top.new.self c.args.client c.in_ok-frame.frame c.move_top.ensures.frames c.args.from c.in_ok-frame.ensures.moved clear source ne)
+    (grant_step m b c.move_top.new.self c.args.client c.in_ok-frame.frame c.move_top.ensures.frames c.args.from c.in_ok-frame.ensures.moved clear source ne)

@@ -3,7 +3,7 @@ use Rattle.std.proofs.lemmas.Option.{MatchOption-at_some, MatchOption-at_none}
 use Rattle.rules.specs.declared.refusal.Refusal.TheVariants.{HoldsNoFrame}
 use Rattle.laws.proofs.Kept.{inside}
 use Rattle.pool.specs.View.{view}
-use Rattle.pool.proofs.Views.{seen, refused_exit}
+use Rattle.pool.proofs.Views.{seen_with, refused_exit}
 use Rattle.pool.proofs.Changes.{hand_back_step, refused_hand_back, refused_empty}
 use Rattle.pool.proofs.pool.Pool.hand_back.Goals as goal
 
@@ -20,12 +20,12 @@ returns-in_err-frame c =
     let v = MatchOption-at_none _ _ none.0 c.move_top.ensures.moved in
     let n = inside 1 256 c.args.client found.0.0 in
     let empty = v.1 (omega arith) (λ z. omega (arith, n, z)) in
-    λ m. (refused_exit _ _ c.from_residual-in_err-frame.result c.from_residual-in_err-frame.ensures.1 (ap (seen b.unit b.tick b.asks b.passage b.members) v.0)
-    (rw none.1 (refused_empty m b.unit b.tick b.asks b.passage b.members b.ledger c.args.client c.in_ok-caller.field-0 found.1 empty found.0)))
+    λ m. (refused_exit _ _ c.from_residual-in_err-frame.result c.from_residual-in_err-frame.ensures.1 (ap (seen_with b b.members) v.0)
+    (rw none.1 (refused_empty m b c.args.client c.in_ok-caller.field-0 found.1 empty found.0)))
 
 pub returns : goal.returns
 returns c =
     let b = c.args.self.now in
     let found = c.in_ok-caller.ensures in
     let v = MatchOption-at_some _ _ c.in_ok-frame.frame c.in_ok-frame.ensures.ok_part c.move_top.ensures.moved in
-    λ m. (hand_back_step m b.unit b.tick b.asks b.passage b.members b.ledger c.move_top.new.self c.args.client c.in_ok-frame.frame c.in_ok-caller.field-0 found.1 v c.move_top.ensures.frames found.0)
+    λ m. (hand_back_step m b c.move_top.new.self c.args.client c.in_ok-frame.frame c.in_ok-caller.field-0 found.1 v c.move_top.ensures.frames found.0)

@@ -13,4 +13,4 @@ returns c =
     let found = c.in_ok-caller.ensures in
     let n = inside 1 256 c.args.client found.0.0 in
     let v = c.release-frames.ensures.freed (λ z. omega (arith, n, z)) in
-    λ m. (leave_step m b.unit b.tick b.asks b.passage b.members b.ledger c.release-frames.new.self c.args.client c.release-frames.result c.in_ok-caller.field-0 b.places found.1 v c.release-frames.ensures.frames found.0)
+    λ m. (leave_step m b c.release-frames.new.self c.args.client c.release-frames.result c.in_ok-caller.field-0 found.1 v c.release-frames.ensures.frames found.0)

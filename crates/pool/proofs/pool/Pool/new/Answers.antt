@@ -1,7 +1,6 @@
 use Rattle.std.proofs.Common.{suc, refl, ap}
 use Rattle.std.specs.Option.{option_map}
-use Rattle.pool.proofs.Starts.{new_view}
-use Rattle.pool.proofs.Noted.{new_noted}
+use Rattle.pool.proofs.Starts.{new_noted, new_view}
 use Rattle.pool.proofs.pool.Pool.new.Goals as goal
 
 pub invariant_of-result : goal.invariant_of-result

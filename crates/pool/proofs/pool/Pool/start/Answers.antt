@@ -1,7 +1,7 @@
 use Rattle.std.proofs.Common.{◌≡◌, ap, inl, inr, arith, rules}
 use Rattle.rules.specs.declared.refusal.Refusal.TheVariants.{AlreadyStarted}
 use Rattle.laws.specs.Calls.{refused}
-use Rattle.pool.proofs.Views.{seen, refused_exit}
+use Rattle.pool.proofs.Views.{seen_with, refused_exit}
 use Rattle.pool.proofs.Starts.{start_step, at_ok, at_err}
 use Rattle.pool.proofs.pool.Pool.start.Goals as goal
 
@@ -14,11 +14,11 @@ returns-in_err-map_err c =
     let e = at_err _ _ _ c.in_err-map_err.ensures.variant c.start.ensures in
     let told : c.in_err-map_err.field-0.0 ≡ AlreadyStarted = search rules in
     let has = e.1.1 (omega arith) in
-    λ m. (refused_exit _ _ c.from_residual.result c.from_residual.ensures.1 (ap (seen b.unit b.tick b.asks b.passage b.members) e.1.0) (rw told (search (inl, inr, rules, arith))))
+    λ m. (refused_exit _ _ c.from_residual.result c.from_residual.ensures.1 (ap (seen_with b b.members) e.1.0) (rw told (search (inl, inr, rules, arith))))
 
 pub returns : goal.returns
 returns c =
     let b = c.args.self.now in
     let s = at_ok _ _ _ c.in_ok-map_err.ensures.variant c.start.ensures in
     let none = s.1.none_before in
-    λ m. (start_step _ b.unit b.tick b.asks b.passage b.members b.ledger c.start.new.self c.args.unit c.args.frames s.1 (search (rules, arith)))
+    λ m. (start_step m b c.start.new.self c.args.unit c.args.frames s.1 (search (rules, arith)))
