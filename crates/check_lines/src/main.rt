@@ -4,15 +4,14 @@
 
 mod report;
 
-use events::{fill, input_buffer};
+use events::read_input;
 use report::report;
 use std::io::{BufWriter, Write};
 
 fn check(rt: &HostRuntime) -> anyhow::Result<()> {
-    let mut input = input_buffer(rt.alloc())?;
-    let n = fill(&mut rt.stdin(), &mut input)?;
+    let input = read_input(rt.alloc(), rt.stdin())?;
     let mut out = BufWriter::new(rt.alloc(), rt.stdout())?;
-    let tally = report(&input[0..n], &mut out)?;
+    let tally = report(&input, &mut out)?;
     let lines = tally.lines;
     let events = tally.events;
     writeln!(out, "lines {lines} events {events}")?;

@@ -5,24 +5,13 @@ ghost use Rattle.std.specs.Prelude.{IfOk};
 use events::{LineFault, Lines, read};
 use std::io;
 use std::io::Write;
+use text::Line;
 
 /// How many lines an input has, and how many of them are events.
 #[derive(Clone, Copy, Drop)]
 pub struct Tally {
     pub lines: u64,
     pub events: u64,
-}
-
-/// Prints the line of a fault.
-fn print_fault<W: Write>(fault: LineFault, out: &mut W) -> io::Result<()> {
-    let mut buffer = [0; 128];
-    match fault.write(&mut buffer) {
-        Ok(n) => {
-            out.write_all(&buffer[0..n])?;
-            out.write_all(b"\n")
-        }
-        Err(_) => unreachable(),
-    }
 }
 
 /// Prints the fault of each malformed line of the input, in order, and answers the tally.
@@ -33,18 +22,14 @@ pub fn report<W: Write>(input: &[u8], out: &mut W) -> io::Result<Tally>
         lines: 0,
         events: 0,
     };
-    let mut lines = Lines::new(input);
-    while let Some(line) = lines.next() {
+    for line in Lines::new(input) {
         tally.lines += 1;
         match read(line) {
             Ok(_) => tally.events += 1,
-            Err(refusal) => print_fault(
-                LineFault {
-                    line: tally.lines,
-                    refusal,
-                },
-                out,
-            )?,
+            Err(refusal) => {
+                let line = tally.lines;
+                LineFault { line, refusal }.print(out)?;
+            }
         }
     }
     Ok(tally)

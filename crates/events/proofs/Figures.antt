@@ -1,14 +1,11 @@
 -- Digits, and the numbers that they write in decimal.
-use Rattle.std.proofs.Common.{◌≡◌, ℕ, zero, suc, ◌+◌, ◌-◌, ◌*◌, ◌^◌, ◌<◌, ◌≤◌, true, false, List, [], ◌∷◌, ◌++◌, length, get_or, take, decimal, sym, refl, ap, ◌∙◌, arith}
+use Rattle.std.proofs.Common.{◌≡◌, ℕ, ◌^◌, ◌<◌, true, false, List, [], ◌∷◌, ◌++◌, decimal, refl, arith}
 use Rattle.events.specs.Grammar.{NoDigit}
 use Rattle.std.proofs.lemmas.Bool.Decides.{nat_tests}
 use Rattle.std.specs.Str.Parse.{AllDigits, digits_value}
-use Rattle.std.specs.Int.{IsInRange}
 use Rattle.std.specs.Char.{is_ascii_digit, digit_value as digitValue}
-use Rattle.std.proofs.lemmas.Fmt.{decimal-digits_value, decimal_nonempty, decimal_digit, length-decimal-le, first_decimal, digits_value-decimal, digits_decimal}
-use Rattle.std.proofs.lemmas.Int.Digits.{digits_value_more}
-use Rattle.std.proofs.lemmas.List.{length-take}
-use Rattle.std.proofs.lemmas.Str.Parse.{IsNumeralModel, numerals_by_value, tells_digits, digit_at, digits_value_short}
+use Rattle.std.proofs.lemmas.Fmt.{digits_decimal}
+use Rattle.std.proofs.lemmas.Str.Parse.{IsNumeralModel, numerals_by_value, tells_digits}
 
 -- the library's words for digits and their value
 own : IsNumeralModel (AllDigits 10) (digits_value 10)
@@ -16,43 +13,6 @@ own = numerals_by_value (AllDigits 10) tells_digits
 
 pub digit_counts : (b : ℕ) → is_ascii_digit b ≡ true → digitValue b < 10
 digit_counts b h = grind (arith, nat_tests)
-
-pub digit_value : (b : ℕ) → IsInRange 48 57 b → digitValue b ≡ b - 48
-digit_value b h = grind (arith, nat_tests)
-
-pub digits_take : (i : ℕ) (ds : List ℕ) → AllDigits 10 ds → AllDigits 10 (take i ds)
-digits_take zero ds h = tt
-digits_take (suc i) [] h = tt
-digits_take (suc i) (d ∷ ds) h = (h.0, digits_take i ds h.1)
-
--- what the first digits of a short number say is small enough to go on with
-pub value_small : (ds : List ℕ) (i : ℕ) → AllDigits 10 ds → i ≤ 9 → digits_value 10 (take i ds) < 10 ^ 9
-value_small ds i h few = digits_value_short own (take i ds) 9 (digits_take i ds h) (omega (arith, length-take i ds))
-
-pub value_on : (ds : List ℕ) (i d : ℕ) → AllDigits 10 ds → i < length ds → d ≡ get_or ds i 0 → digits_value 10 (take i ds) * 10 + (d - 48) ≡ digits_value 10 (take (i + 1) ds)
-value_on ds i d h l e =
-    let is = digit_value (get_or ds i 0) (digit_at ds i h l) in
-    omega (arith, digits_value_more 10 ds i l, ap digitValue e, is, e)
-
--- no number is written with no digit, with more than ten, or with a zero before others
-pub none_writes : (ds : List ℕ) → length ds ≡ 0 → (n : ℕ) → n < 2 ^ 32 → ds ≡ decimal n → ⊥
-none_writes ds none n small e = omega (arith, ap length e, decimal_nonempty n (omega arith))
-
-pub long_writes : (ds : List ℕ) → 10 < length ds → (n : ℕ) → n < 2 ^ 32 → ds ≡ decimal n → ⊥
-long_writes ds long n small e = omega (arith, ap length e, length-decimal-le 10 n (omega arith) (omega arith) (omega arith))
-
-pub zero_writes : (ds : List ℕ) → 1 < length ds → get_or ds 0 0 ≡ 48 → (n : ℕ) → n < 2 ^ 32 → ds ≡ decimal n → ⊥
-zero_writes ds long first zero small e = omega (arith, ap length (e ∙ decimal_digit 0 (omega arith)))
-zero_writes ds long first (suc n) small e =
-    omega (arith, first_decimal (suc n) (omega arith) (omega arith), ap (λ xs. get_or xs 0 0) e)
-
--- a number is what its digits say
-pub large_writes : (ds : List ℕ) (v : ℕ) → v ≡ digits_value 10 ds → 2 ^ 32 ≤ v → (n : ℕ) → n < 2 ^ 32 → ds ≡ decimal n → ⊥
-large_writes ds v e large n small is = omega (arith, ap (digits_value 10) is, digits_value-decimal own n (omega arith))
-
-pub digits_write : (ds : List ℕ) (v : ℕ) → AllDigits 10 ds → 0 < length ds → (get_or ds 0 0 ≡ 48 → length ds ≡ 1) → v ≡ digits_value 10 ds → v < 2 ^ 32 → ds ≡ decimal v
-digits_write ds v h some lead e small =
-    sym (ap decimal e ∙ decimal-digits_value own ds h some lead (omega arith))
 
 pub decimal_digits : (n : ℕ) → n < 2 ^ 32 → AllDigits 10 (decimal n)
 decimal_digits n small = digits_decimal own n (omega arith)

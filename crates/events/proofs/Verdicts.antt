@@ -73,29 +73,30 @@ one_way (suc c) (n ∷ ns) (m ∷ ms) rest more p q f g s t u v e =
 -- the event of a kind with these numbers
 abbrev event_of : EventKind → List ℕ → Event
 event_of kinds.Start ns = Start (get_or ns 0 0) (get_or ns 1 0)
-event_of kinds.Admit ns = Admit (get_or ns 0 0) (get_or ns 1 0) (get_or ns 2 0) (get_or ns 3 0) (get_or ns 4 0)
+event_of kinds.Admit ns =
+    Admit (record { client = get_or ns 0 0; shares = get_or ns 1 0; class = get_or ns 2 0; minimum = get_or ns 3 0; maximum = get_or ns 4 0 })
 event_of kinds.Ask ns = Ask (get_or ns 0 0)
 event_of kinds.HandBack ns = HandBack (get_or ns 0 0)
 event_of kinds.Leave ns = Leave (get_or ns 0 0)
-event_of kinds.Estimate ns = Estimate (get_or ns 0 0) (get_or ns 1 0) (get_or ns 2 0)
+event_of kinds.Estimate ns = Estimate (get_or ns 0 0) (record { active = get_or ns 1 0; end = get_or ns 2 0 })
 event_of kinds.Clock ns = Clock (get_or ns 0 0)
 
 event_again : (e : Event) → event_of (kind e) (numbers e) ≡ e
 event_again (Start unit frames) = refl
-event_again (Admit client shares class minimum maximum) = refl
+event_again (Admit admission) = refl
 event_again (Ask client) = refl
 event_again (HandBack client) = refl
 event_again (Leave client) = refl
-event_again (Estimate client active end) = refl
+event_again (Estimate client estimate) = refl
 event_again (Clock tick) = refl
 
 pub numbers_count : (e : Event) → length (numbers e) ≡ count (kind e)
 numbers_count (Start unit frames) = refl
-numbers_count (Admit client shares class minimum maximum) = refl
+numbers_count (Admit admission) = refl
 numbers_count (Ask client) = refl
 numbers_count (HandBack client) = refl
 numbers_count (Leave client) = refl
-numbers_count (Estimate client active end) = refl
+numbers_count (Estimate client estimate) = refl
 numbers_count (Clock tick) = refl
 
 -- the verdict on a line that was read as far as it could be

@@ -46,7 +46,7 @@ nothing_alike (suc w) (x ∷ xs) h a = let z : ◌≡◌ {A = ℕ} 0 1 = cc in a
 length_spaced : (n : ℕ) → n < 2 ^ 32 → length (spaced n) ≤ 11
 length_spaced n small = omega (arith, length-decimal-le 10 n (omega arith) (omega arith) (omega arith))
 
-length_numbers : (ns : List ℕ) → AllByRecursion (λ n. n < 2 ^ 32) ns → length (flat_map spaced ns) ≤ 11 * length ns
+pub length_numbers : (ns : List ℕ) → AllByRecursion (λ n. n < 2 ^ 32) ns → length (flat_map spaced ns) ≤ 11 * length ns
 length_numbers [] s = omega arith
 length_numbers (n ∷ ns) s =
     omega (arith, length-append (spaced n) (flat_map spaced ns), length_spaced n s.0, length_numbers ns s.1)

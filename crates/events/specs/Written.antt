@@ -13,20 +13,20 @@ pub use Rattle.events.specs.declared.event.Event.TheVariants.{Start, Admit, Ask,
 
 abbrev pub kind : Event → EventKind
 kind (Start unit frames) = kinds.Start
-kind (Admit client shares class minimum maximum) = kinds.Admit
+kind (Admit admission) = kinds.Admit
 kind (Ask client) = kinds.Ask
 kind (HandBack client) = kinds.HandBack
 kind (Leave client) = kinds.Leave
-kind (Estimate client active end) = kinds.Estimate
+kind (Estimate client estimate) = kinds.Estimate
 kind (Clock tick) = kinds.Clock
 
 abbrev pub numbers : Event → List ℕ
 numbers (Start unit frames) = unit ∷ frames ∷ []
-numbers (Admit client shares class minimum maximum) = client ∷ shares ∷ class ∷ minimum ∷ maximum ∷ []
+numbers (Admit a) = a.client ∷ a.shares ∷ a.class ∷ a.minimum ∷ a.maximum ∷ []
 numbers (Ask client) = client ∷ []
 numbers (HandBack client) = client ∷ []
 numbers (Leave client) = client ∷ []
-numbers (Estimate client active end) = client ∷ active ∷ end ∷ []
+numbers (Estimate client estimate) = client ∷ estimate.active ∷ estimate.end ∷ []
 numbers (Clock tick) = tick ∷ []
 
 abbrev pub Sized : Event → Type 0

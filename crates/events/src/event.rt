@@ -1,5 +1,5 @@
 //! Events, as lines say them.
-ghost use Rattle.std.specs.Prelude.{◌≡◌, ℕ, ◌^◌, ◌<◌, List, ◌∷◌, length, take, Ok, Result};
+ghost use Rattle.std.specs.Prelude.{◌≡◌, ℕ, ◌^◌, ◌<◌, ◌≤◌, List, ◌∷◌, length, take, Ok, Result};
 ghost use Rattle.rules.specs.declared.refusal.Refusal.{Refusal};
 ghost use Rattle.events.specs.Faults.{Verdict};
 ghost use Rattle.events.specs.Grammar.{count, spaced};
@@ -9,47 +9,26 @@ ghost use Rattle.text.specs.Texts.{Placed, cut, spelt};
 
 use crate::reader::Reader;
 use crate::word::EventKind;
-use rules::Refusal;
-use text::Text;
+use rules::{Admission, Estimate, Refusal};
+use text::{Line, Text};
 
 /// What an event line says. The numbers are as they came: whether the broker takes them is for the broker to say.
 #[derive(Clone, Copy, PartialEq, Eq, Debug, Drop)]
 pub enum Event {
     /// `S unit frames`
-    Start {
-        unit: u32,
-        frames: u32,
-    },
+    Start { unit: u32, frames: u32 },
     /// `A client shares class minimum maximum`
-    Admit {
-        client: u32,
-        shares: u32,
-        class: u32,
-        minimum: u32,
-        maximum: u32,
-    },
+    Admit(Admission),
     /// `Q client`
-    Ask {
-        client: u32,
-    },
+    Ask { client: u32 },
     /// `H client`
-    HandBack {
-        client: u32,
-    },
+    HandBack { client: u32 },
     /// `L client`
-    Leave {
-        client: u32,
-    },
+    Leave { client: u32 },
     /// `E client active end`
-    Estimate {
-        client: u32,
-        active: u32,
-        end: u32,
-    },
+    Estimate { client: u32, estimate: Estimate },
     /// `T tick`
-    Clock {
-        tick: u32,
-    },
+    Clock { tick: u32 },
 }
 
 /// The event of a kind with these numbers, of which it takes as many as its line has.
@@ -61,20 +40,19 @@ fn event_of(k: EventKind, ns: [u32; 5]) -> Event
     let [a, b, c, d, e] = ns;
     match k {
         EventKind::Start => Event::Start { unit: a, frames: b },
-        EventKind::Admit => Event::Admit {
+        EventKind::Admit => Event::Admit(Admission {
             client: a,
             shares: b,
             class: c,
             minimum: d,
             maximum: e,
-        },
+        }),
         EventKind::Ask => Event::Ask { client: a },
         EventKind::HandBack => Event::HandBack { client: a },
         EventKind::Leave => Event::Leave { client: a },
         EventKind::Estimate => Event::Estimate {
             client: a,
-            active: b,
-            end: c,
+            estimate: Estimate { active: b, end: c },
         },
         EventKind::Clock => Event::Clock { tick: a },
     }
@@ -104,7 +82,7 @@ pub fn read(line: &[u8]) -> Result<Event, Refusal>
 
 /// A letter and some numbers, each after one space.
 fn spell(letter: u8, numbers: &[u32]) -> Text
-    ensures line { spelt result ≡ cut (letter ∷ flat_map spaced numbers.now) }
+    ensures line { length numbers.now ≤ 11 → spelt result ≡ letter ∷ flat_map spaced numbers.now }
     ensures sized { AllByRecursion (λ n. n < 2 ^ 32) numbers.now }
 {
     let mut text = Text::new();
@@ -116,33 +94,29 @@ fn spell(letter: u8, numbers: &[u32]) -> Text
     text
 }
 
-impl Event {
-    /// The event's line.
+impl Line for Event {
+    ghost spelling = { written };
+
     fn line(&self) -> Text
-        ensures line { spelt result ≡ cut (written self.now) }
+        ensures line { spelt result ≡ written self.now }
         ensures sized { Sized self.now }
     {
         match *self {
             Event::Start { unit, frames } => spell(b'S', &[unit, frames]),
-            Event::Admit {
-                client,
-                shares,
-                class,
-                minimum,
-                maximum,
-            } => spell(b'A', &[client, shares, class, minimum, maximum]),
+            Event::Admit(a) => spell(b'A', &[a.client, a.shares, a.class, a.minimum, a.maximum]),
             Event::Ask { client } => spell(b'Q', &[client]),
             Event::HandBack { client } => spell(b'H', &[client]),
             Event::Leave { client } => spell(b'L', &[client]),
             Event::Estimate {
                 client,
-                active,
-                end,
+                estimate: Estimate { active, end },
             } => spell(b'E', &[client, active, end]),
             Event::Clock { tick } => spell(b'T', &[tick]),
         }
     }
+}
 
+impl Event {
     /// Writes the event's line to the front of a lent buffer and answers its length. A buffer too short for it stays
     /// as it was. What is written reads as the same event again.
     pub fn write(&self, out: &mut [u8]) -> Result<usize, Refusal>

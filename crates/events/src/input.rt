@@ -1,33 +1,23 @@
 //! Reading an input into memory.
-ghost use Rattle.std.specs.Prelude.{◌≡◌, ◌≤◌, length, IfOk, vec_len};
+ghost use Rattle.std.specs.Prelude.{◌≡◌, ◌≤◌, take, length, IfOk, IfSome, vec_len};
 
-use std::alloc::{AllocError, Global};
+use std::alloc::Global;
 use std::io;
 use std::io::Read;
 
 /// How many bytes of an input are read.
 const LIMIT: usize = 16_777_216;
 
-/// Memory for an input: as many bytes as are read of one.
-pub fn input_buffer(heap: Global) -> Result<Vec<u8>, AllocError>
-    ensures { IfOk result (λ v. vec_len v ≡ 16_777_216) }
-{
-    vec![in heap; 0u8; LIMIT]
-}
-
-/// Fills a buffer from its front, read by read, until it is full or the input ends, and answers how many bytes came.
+/// The first bytes of an input: all of them, or as many as are read of one.
 ///
-/// A pipe hands out less at a time than is asked for, so one read is not enough.
-pub fn fill<R: Read>(from: &mut R, buffer: &mut [u8]) -> io::Result<usize>
-    ensures { IfOk result (λ n. n ≤ length buffer.old) }
+/// Room for them is made at once, and a pipe, which hands out less at a time than is asked for, is read to its end.
+pub fn read_input<R: Read + Drop>(heap: Global, from: R) -> io::Result<Vec<u8>>
+    ensures length { IfOk result (λ input. vec_len input ≤ 16_777_216) }
+    ensures bytes { IfOk result (λ input. IfSome (R.remaining from) (λ bs. input.items ≡ take 16_777_216 bs)) }
 {
-    let mut n = 0;
-    while n < buffer.len() {
-        let more = from.read(&mut buffer[n..])?;
-        if more == 0 {
-            break;
-        }
-        n += more;
-    }
-    Ok(n)
+    let mut input = Vec::with_capacity(heap, LIMIT)?;
+    from.take(LIMIT as u64).read_to_end(&mut input)?;
+    // No more came; but std promises so only of a reader whose bytes are known.
+    input.truncate(LIMIT);
+    Ok(input)
 }

@@ -13,7 +13,7 @@ mod reader;
 mod word;
 
 pub use event::{Event, read};
-pub use input::{fill, input_buffer};
+pub use input::read_input;
 pub use line_fault::LineFault;
 pub use lines::Lines;
 pub use reader::Reader;

@@ -4,7 +4,7 @@ ghost use Rattle.events.specs.Told.{told};
 ghost use Rattle.text.specs.Texts.{Placed, cut, spelt};
 
 use rules::Refusal;
-use text::Text;
+use text::{Line, Text};
 
 /// Why a line of the input was refused: the refusal whole, beside the line's number, counted from 1.
 #[derive(Clone, Copy, Drop)]
@@ -13,12 +13,12 @@ pub struct LineFault {
     pub refusal: Refusal,
 }
 
-impl LineFault {
-    /// What is printed of the line.
-    fn text(&self) -> Text
-        ensures text { spelt result ≡ cut (told self.now) }
-        ensures short { length (told self.now) ≤ 128 }
-    {
+/// `line N text K at C` for a malformed line, `line N refused R` for any other.
+impl Line for LineFault {
+    ghost spelling = { told };
+
+    // Kept: with `Display` `write` could not promise what it does, since `write!` never promises `Ok`.
+    fn line(&self) -> Text {
         let mut text = Text::new();
         text.bytes(b"line ");
         text.number(self.line);
@@ -35,14 +35,5 @@ impl LineFault {
             }
         }
         text
-    }
-
-    /// Writes `line N text K at C` for a malformed line, `line N refused R` for any other, to the front of a lent
-    /// buffer, and answers the length, at most 128. A buffer too short for it stays as it was.
-    pub fn write(&self, out: &mut [u8]) -> Result<usize, Refusal>
-        ensures short { length (told self.now) ≤ 128 }
-        ensures placed { Placed (told self.now) out.old result out.new }
-    {
-        self.text().write(out)
     }
 }

@@ -4,8 +4,9 @@
 #[cfg(test)]
 mod tests {
     use events::{Event, LineFault, Lines, read};
-    use rules::{Fault, FaultKind, Refusal};
+    use rules::{Admission, Estimate, Fault, FaultKind, Refusal};
     use std::test::Fail;
+    use text::Line;
 
     // The bytes of a literal, as a slice.
     fn text(bytes: &'static [u8]) -> &'static [u8] {
@@ -49,13 +50,13 @@ mod tests {
     const EVENTS: [(Event, &[u8]); 9] = [
         (Event::Start { unit: 7, frames: 3 }, b"S 7 3"),
         (
-            Event::Admit {
+            Event::Admit(Admission {
                 client: 1,
                 shares: 300,
                 class: 0,
                 minimum: 0,
                 maximum: 3,
-            },
+            }),
             b"A 1 300 0 0 3",
         ),
         (Event::Ask { client: 2 }, b"Q 2"),
@@ -64,21 +65,20 @@ mod tests {
         (
             Event::Estimate {
                 client: 2,
-                active: 1,
-                end: 90,
+                estimate: Estimate { active: 1, end: 90 },
             },
             b"E 2 1 90",
         ),
         (Event::Clock { tick: 4294967295 }, b"T 4294967295"),
         (Event::Ask { client: 10 }, b"Q 10"),
         (
-            Event::Admit {
+            Event::Admit(Admission {
                 client: 4294967295,
                 shares: 4294967295,
                 class: 4294967295,
                 minimum: 4294967295,
                 maximum: 4294967295,
-            },
+            }),
             b"A 4294967295 4294967295 4294967295 4294967295 4294967295",
         ),
     ];

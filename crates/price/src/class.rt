@@ -31,8 +31,7 @@ impl<P: Price> Price for ClassPrice<P> {
         let below = self.below.quote(offer);
         Quote {
             class: offer.offer().class,
-            top: below.top,
-            bottom: below.bottom,
+            ..below
         }
     }
 }

@@ -1,9 +1,10 @@
 //! What the arguments ask for.
-ghost use Rattle.std.specs.Prelude.{◌≡◌, ◌&&◌, ◌||◌, map, length, string_bytes, ◌==◌, nat_lt, slice_index};
+ghost use Rattle.std.specs.Prelude.{map, string_bytes};
 ghost use Rattle.tariff.specs.Requests.{ReadsNumber, ReadsEstimate};
 ghost use Rattle.tariff.specs.Faults.{ReadsThree, Reads};
 
 use crate::fault::Fault;
+use text::plain_number;
 
 /// A sheet that is asked for: the rate and the active count or none of the taxed price, and how long the sheet is.
 #[derive(Clone, Copy, Drop)]
@@ -14,15 +15,10 @@ pub struct Request {
 }
 
 /// The number that a word is in plain decimal: digits alone, with no zero in front of others, and at most 32 bits.
-#[tactic(auto, using(crate::proofs::Figures::no_number, crate::proofs::Figures::reads_number))]
 fn number(word: &str) -> Option<u32>
     ensures { ReadsNumber word.now result }
 {
-    // a plus or a zero stands in front of more
-    if matches!(word.as_bytes(), [b'+' | b'0', _, ..]) {
-        return None;
-    }
-    word.parse::<u32>().ok()
+    plain_number(word.as_bytes())
 }
 
 /// The active count that a word says, or none where it is `-`.

@@ -1,7 +1,7 @@
 -- A text that grows piece by piece, each time cut at 128 bytes, is what it would be had the whole been cut once.
-use Rattle.std.proofs.Common.{◌≡◌, ℕ, ◌+◌, ◌/◌, ◌%◌, ◌^◌, ◌<◌, ◌≤◌, List, [], ◌∷◌, ◌++◌, length, take, set, decimal, Result, sym, ap, ◌∙◌, subst, ⊎_elim, append_assoc, arith}
-use Rattle.std.proofs.lemmas.List.{length-take, length-take-le, length_push, take_all, take-take, take-append-le, take_more_set}
-use Rattle.std.proofs.lemmas.Fmt.{decimal_digit, decimal_step}
+use Rattle.std.proofs.Common.{◌≡◌, ℕ, ◌+◌, ◌<◌, ◌≤◌, min, List, [], ◌++◌, length, take, Result, sym, ap, ◌∙◌, subst, ⊎_elim, append_assoc, arith}
+use Rattle.std.proofs.lemmas.List.{length-take-le, take_all, take-take, take-append-le}
+use Rattle.std.proofs.Math.Seq.{take-append-add}
 use Rattle.std.proofs.str.Laws.{order}
 use Rattle.rules.specs.declared.refusal.Refusal.{Refusal}
 use Rattle.text.specs.Texts.{Placed, spelt, cut}
@@ -29,31 +29,23 @@ cut_cut bs more =
 pub cut_pieces : (bs one two mid : List ℕ) → mid ≡ cut (bs ++ one) → cut (mid ++ two) ≡ cut (bs ++ (one ++ two))
 cut_pieces bs one two mid e = ap (λ xs. cut (xs ++ two)) e ∙ cut_cut (bs ++ one) two ∙ ap cut (append_assoc bs one two)
 
--- the first n bytes of the memory, with one more put behind them
-pub byte_kept : (bs : List ℕ) (n b : ℕ) → length bs ≡ 128 → n < 128 → take (n + 1) (set bs n b) ≡ cut (take n bs ++ b ∷ [])
-byte_kept bs n b room h =
-    let in_it : n < length bs = omega arith in
-    take_more_set bs n b in_it ∙ sym (cut_short _ (omega (arith, length_push (take n bs) b, length-take-le n bs (omega arith))))
-
-pub byte_dropped : (bs : List ℕ) (n b : ℕ) → length bs ≡ 128 → n ≤ 128 → 128 ≤ n → take n bs ≡ cut (take n bs ++ b ∷ [])
-byte_dropped bs n b room short h =
-    let full = length-take-le n bs (omega arith) in
-    sym (cut_full (take n bs) (b ∷ []) (omega arith) ∙ cut_short (take n bs) (omega arith))
+-- as many bytes more as there is room for
+pub kept_front : (bs more : List ℕ) (room k : ℕ) → room + length bs ≡ 128 → k ≡ min (length more) room → bs ++ take k more ≡ cut (bs ++ more)
+unfolding cut
+kept_front bs more room k h e =
+    let all : 128 ≡ length bs + room = omega (arith, h) in
+    sym (ap (λ n. take n (bs ++ more)) all ∙ take-append-add bs more room ∙ ap (λ xs. bs ++ xs) (front more k room e))
+  where
+    front : (more : List ℕ) (k room : ℕ) → k ≡ min (length more) room → take room more ≡ take k more
+    front more k room e =
+        ⊎_elim
+        (λ (h : length more < room). take_all room more (omega arith) ∙ sym (take_all k more (omega arith)))
+        (λ (h : room ≤ length more). let same : room ≡ k = omega arith in ap (λ n. take n more) same)
+        (order (length more) room)
 
 -- what a text says is never longer than it may be
 pub cut_spelt : (t : Text) → cut (spelt t) ≡ spelt t
-cut_spelt t = cut_short (spelt t) (omega (arith, length-take t.len t.bytes, t.short))
-
--- the digits before the last, and then the last
-pub number_kept : (bs mid : List ℕ) (n d : ℕ) → 10 ≤ n → n < 2 ^ 64 → mid ≡ cut (bs ++ decimal (n / 10)) → d ≡ 48 + n % 10 → cut (mid ++ d ∷ []) ≡ cut (bs ++ decimal n)
-number_kept bs mid n d h fits e digit =
-    cut_pieces bs (decimal (n / 10)) (d ∷ []) mid e ∙ ap (λ x. cut (bs ++ (decimal (n / 10) ++ x ∷ []))) digit ∙ ap (λ xs. cut (bs ++ xs)) (sym (decimal_step n h fits))
-
--- one digit alone
-pub digit_kept : (bs mid : List ℕ) (n d : ℕ) → n < 10 → mid ≡ bs → d ≡ 48 + n % 10 → cut (mid ++ d ∷ []) ≡ cut (bs ++ decimal n)
-digit_kept bs mid n d h e digit =
-    let same : d ≡ 48 + n = omega arith in
-    ap (λ xs. cut (xs ++ d ∷ [])) e ∙ ap (λ x. cut (bs ++ x ∷ [])) same ∙ ap (λ xs. cut (bs ++ xs)) (sym (decimal_digit n h))
+cut_spelt t = cut_short (spelt t) t.short
 
 -- a text that says some bytes, cut, says these and more bytes, cut, once they are put behind
 pub grown : {mid after : List ℕ} (bs more : List ℕ) → mid ≡ cut bs → after ≡ cut (mid ++ more) → after ≡ cut (bs ++ more)

@@ -9,7 +9,7 @@ use Rattle.rules.specs.declared.refusal.Refusal.TheVariants.{BufferTooShort}
 use Rattle.text.specs.declared.text.Text.{Text}
 
 abbrev pub spelt : Text → List ℕ
-spelt t = take t.len t.bytes
+spelt t = t.line.items
 
 unfoldable pub cut : List ℕ → List ℕ
 cut bs = take 128 bs

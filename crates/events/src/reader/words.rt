@@ -10,6 +10,7 @@ ghost use Rattle.events.specs.declared.word.Due.TheVariants as due;
 use super::Reader;
 use crate::word::{Due, EventKind, Form, Word};
 use rules::{Fault, FaultKind};
+use text::plain_number;
 
 /// What a letter says, if it is one of the seven.
 fn form(c: char) -> Option<Form>
@@ -40,28 +41,6 @@ fn digits(bytes: &[u8]) -> usize
     bytes.len()
 }
 
-/// The number that some digits write, unless they are none, have a leading zero or say more than 32 bits hold.
-fn value(digits: &[u8]) -> Option<u32>
-    requires { AllDigits 10 digits.now }
-    ensures { MatchOption result ((n : ℕ) → n < 2 ^ 32 → digits.now ≢ decimal n) (λ n. (n < 2 ^ 32) × (digits.now ≡ decimal n)) }
-{
-    let len = digits.len();
-    if len == 0 || len > 10 {
-        return None;
-    }
-    if digits[0] == b'0' && len > 1 {
-        return None;
-    }
-    let mut n: u64 = 0;
-    for d in digits {
-        n = n * 10 + (*d - b'0') as u64;
-    }
-    if n > 0xffff_ffff {
-        return None;
-    }
-    Some(n as u32)
-}
-
 impl<'a> Reader<'a> {
     /// A reader at the start of a line.
     pub fn new(line: &'a [u8]) -> Reader<'a>
@@ -78,14 +57,12 @@ impl<'a> Reader<'a> {
         if at >= self.line.len() {
             return None;
         }
-        match form(self.line[at] as char) {
-            Some(form) => Some(Word::Letter {
-                text: &self.line[at..at + 1],
-                column: at + 1,
-                form,
-            }),
-            None => None,
-        }
+        let form = form(self.line[at] as char)?;
+        Some(Word::Letter {
+            text: &self.line[at..at + 1],
+            column: at + 1,
+            form,
+        })
     }
 
     /// The space at the cursor, if one is there.
@@ -110,14 +87,12 @@ impl<'a> Reader<'a> {
         let at = self.at;
         let end = at + digits(&self.line[at..]);
         let text = &self.line[at..end];
-        match value(text) {
-            Some(value) => Some(Word::Number {
-                text,
-                column: at + 1,
-                value,
-            }),
-            None => None,
-        }
+        let value = plain_number(text)?;
+        Some(Word::Number {
+            text,
+            column: at + 1,
+            value,
+        })
     }
 
     /// The word at the cursor, if it is the word that is due.

@@ -1,8 +1,10 @@
 //! What a text is put together from, and how it leaves.
-ghost use Rattle.std.specs.Prelude.{◌≡◌, ℕ, ◌+◌, ◌<◌, ◌≤◌, [], ◌∷◌, ◌++◌, length, Ok, Err, decimal};
+ghost use Rattle.std.specs.Prelude.{◌≡◌, ◌≤◌, [], ◌∷◌, ◌++◌, length, decimal};
 ghost use Rattle.text.specs.Texts.{spelt, cut, Placed};
 
 use super::Text;
+use arrayvec::ArrayVec;
+use itoa::Buffer;
 use rules::Refusal;
 
 impl Text {
@@ -10,30 +12,23 @@ impl Text {
     pub fn new() -> Text
         ensures { spelt result ≡ [] }
     {
-        Text {
-            bytes: [0; 128],
-            len: 0,
-        }
+        let line = ArrayVec::new();
+        Text { line }
     }
 
     /// One byte more.
     pub fn byte(&mut self, b: u8)
         ensures { spelt self.new ≡ cut (spelt self.old ++ b ∷ []) }
     {
-        let at = self.len;
-        if at < 128 {
-            self.bytes[at] = b;
-            self.len = at + 1;
-        }
+        self.bytes(&[b]);
     }
 
     /// Some bytes more.
     pub fn bytes(&mut self, more: &[u8])
         ensures { spelt self.new ≡ cut (spelt self.old ++ more.now) }
     {
-        for b in more {
-            self.byte(*b);
-        }
+        let kept = more.len().min(self.line.remaining_capacity());
+        let _fits = self.line.try_extend_from_slice(&more[..kept]);
     }
 
     /// A number more, in decimal. It takes 20 bytes at most.
@@ -41,25 +36,27 @@ impl Text {
         ensures short { length (decimal n) ≤ 20 }
         ensures text { spelt self.new ≡ cut (spelt self.old ++ decimal n) }
     {
-        let tens = n / 10;
-        if tens >= 10 {
-            self.number(tens / 10);
-        }
-        if tens >= 1 {
-            self.byte((tens % 10) as u8 + b'0');
-        }
-        self.byte((n % 10) as u8 + b'0');
+        let mut buffer = Buffer::new();
+        self.bytes(buffer.format(n).as_bytes());
+    }
+
+    /// The text's bytes.
+    pub fn as_bytes(&self) -> &[u8]
+        ensures { result.now ≡ spelt self.now }
+    {
+        self.line.as_slice()
     }
 
     /// Writes the text to the front of a lent buffer and answers its length. A buffer too short for it stays as it was.
     pub fn write(&self, out: &mut [u8]) -> Result<usize, Refusal>
         ensures { Placed (spelt self.now) out.old result out.new }
     {
-        let n = self.len;
+        let line = self.as_bytes();
+        let n = line.len();
         if out.len() < n {
             return Err(Refusal::BufferTooShort);
         }
-        out[0..n].copy_from_slice(&self.bytes[0..n]);
+        out[0..n].copy_from_slice(line);
         Ok(n)
     }
 }

@@ -1,10 +1,10 @@
-use Rattle.std.proofs.Common.{Ok, Err, sym, refl, subst, arith}
+use Rattle.std.proofs.Common.{Ok, Err, sym, refl, ap, ◌∙◌, subst, arith}
 use Rattle.check_lines.specs.Tallies.{good, bad}
 use Rattle.check_lines.proofs.Sofar.{Sofar, begun, done, one_more}
 use Rattle.check_lines.proofs.report.report.Goals as goal
 
 pub loop-line-init : goal.loop-line-init
-loop-line-init g c = subst (Sofar c.args.input.now _) (sym c.new-lines.ensures) (begun c.args.input.now)
+loop-line-init g c = subst (Sofar c.args.input.now _) (sym (ap (λ ls. ls.rest.now) c.into_iter-line-iterator.ensures.into_iter_gives ∙ c.new-line-items.ensures)) (begun c.args.input.now)
 
 pub loop-line-preserved-in-Ok : goal.loop-line-preserved-in-Ok
 loop-line-preserved-in-Ok g c =
@@ -17,4 +17,4 @@ loop-line-preserved g c =
     (λ line seen v so_far. (bad so_far c.in-Err.refusal v, omega (arith, c.loop-line.invariant.fewer)))
 
 pub returns : goal.returns
-returns g c = done _ _ _ _ c.loop-line.invariant c.in_default.ensures.steps
+returns g c = done _ _ _ _ c.loop-line.invariant c.in-None.ensures.steps

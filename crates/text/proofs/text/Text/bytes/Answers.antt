@@ -1,18 +1,14 @@
-use Rattle.std.proofs.Common.{◌<◌, ◌≤◌, ◌++◌, length, take, sym, ap, ◌∙◌, append-nil, arith}
-use Rattle.std.proofs.lemmas.List.{take_all, take_more}
-use Rattle.text.specs.Texts.{spelt, cut}
-use Rattle.text.proofs.Cuts.{cut_pieces, cut_spelt}
+use Rattle.std.proofs.Common.{◌≡◌, ℕ, Ok, Err, Result, ◌∙◌, arith, rules}
+use Rattle.std.specs.Result.{IsOk, OnOk}
+use Rattle.text.proofs.Cuts.{kept_front}
 use Rattle.text.proofs.text.Text.bytes.Goals as goal
 
-pub loop-b-init : goal.loop-b-init
-loop-b-init c = sym (ap cut (append-nil _) ∙ cut_spelt c.args.self.now)
-
-pub loop-b-preserved : goal.loop-b-preserved
-loop-b-preserved c =
-    let within : c.loop-b.b-index < length c.args.more.now = omega arith in
-    c.byte.ensures ∙ cut_pieces (spelt c.args.self.now) (take c.loop-b.b-index c.args.more.now) _ _ c.loop-b.invariant ∙ ap (λ xs. cut (spelt c.args.self.now ++ xs)) (sym (take_more _ _ 0 within))
+-- what is known of a call that succeeds
+succeeded : {T E P : Type 0} (r : Result T E) → IsOk r → OnOk r P → P
+succeeded (Ok x) is known = known
+succeeded (Err e) is known = let z : ◌≡◌ {A = ℕ} 0 1 = cc in absurd (omega arith)
 
 pub returns : goal.returns
 returns c =
-    let within : length c.args.more.now ≤ c.loop-b.b-index = omega arith in
-    c.loop-b.invariant ∙ ap (λ xs. cut (spelt c.args.self.now ++ xs)) (take_all _ _ within)
+    let fits = c.try_extend_from_slice-fits.ensures in
+    succeeded _ (fits.variant.1 (search (rules, arith))) fits.ok ∙ kept_front _ _ _ _ c.remaining_capacity.ensures c.min-kept.ensures

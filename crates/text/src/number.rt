@@ -1,0 +1,25 @@
+//! Numbers, as texts write them.
+ghost use Rattle.std.specs.Prelude.{◌≡◌, ℕ, ◌^◌, ◌<◌, decimal, MatchOption, ◌≢◌};
+
+/// The number that some bytes write in plain decimal: digits alone, with no zero in front of others, and of at most
+/// 32 bits.
+pub fn plain_number(bytes: &[u8]) -> Option<u32>
+    ensures { MatchOption result ((n : ℕ) → n < 2 ^ 32 → bytes.now ≢ decimal n) (λ n. (n < 2 ^ 32) × (bytes.now ≡ decimal n)) }
+{
+    let len = bytes.len();
+    if len == 0 || len > 10 {
+        return None;
+    }
+    if bytes[0] == b'0' && len > 1 {
+        return None;
+    }
+    // Kept: `str::from_utf8(bytes).ok()?.parse().ok()` made the reading of lines a quarter slower.
+    let mut number: u64 = 0;
+    for b in bytes {
+        if !b.is_ascii_digit() {
+            return None;
+        }
+        number = number * 10 + (*b - b'0') as u64;
+    }
+    u32::try_from(number).ok()
+}
