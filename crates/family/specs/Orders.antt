@@ -12,50 +12,50 @@
 -- Rehearsed  so they were; or there were too few places for the answers, and nothing was done
 use Rattle.std.specs.Prelude.{◌≡◌, ℕ, ◌<◌, ◌≤◌, List, [], ◌∷◌, ◌++◌, length, take, drop, Some, None, Ok, Err, Option, Result, slice_set}
 use Rattle.std.specs.List.{slice_get}
-use Rattle.rules.specs.Offers.{Meaning}
 use Rattle.rules.specs.declared.refusal.Refusal.{Refusal}
 use Rattle.rules.specs.declared.refusal.Refusal.TheVariants.{BufferTooShort}
 use Rattle.rules.specs.declared.call.Answer.{Answer}
 use Rattle.laws.specs.Histories.{Event, event}
 use Rattle.laws.specs.Families.{Tagged, tagged, own}
 use Rattle.laws.specs.Guarantees.{Guarantees}
+use Rattle.price.specs.declared.telling.Price.{Ghosts}
 use Rattle.broker.specs.declared.broker.Broker.{Broker}
-use Rattle.broker.specs.View.{view, Led, Called}
+use Rattle.broker.specs.View.{meaning, view, Led, Stepped}
 pub use Rattle.family.specs.declared.orders.Order.{Order}
 
-module _ {P : Type 0} (meaning : P → Meaning) where
-  abbrev pub At : List (Broker P) → ℕ → Broker P → Type 0
+module _ {P : Type 0} {q : Ghosts P} where
+  abbrev pub At : List (Broker P q) → ℕ → Broker P q → Type 0
   At bs i b = slice_get bs i ≡ Some b
 
-  pub record Made (bs : List (Broker P)) (o : Order) (a : Answer) (cs : List (Broker P)) : Type 0 where
-    pub before : Broker P
-    pub after : Broker P
+  pub record Made (bs : List (Broker P q)) (o : Order) (a : Result Answer Refusal) (cs : List (Broker P q)) : Type 0 where
+    pub before : Broker P q
+    pub after : Broker P q
     pub there : At bs o.broker before
-    pub called : Called meaning before o.call a after
+    pub stepped : Stepped before o.call a after
     pub others : cs ≡ slice_set bs o.broker after
 
-  abbrev pub Obeyed : List (Broker P) → Order → Option Answer → List (Broker P) → Type 0
+  abbrev pub Obeyed : List (Broker P q) → Order → Option (Result Answer Refusal) → List (Broker P q) → Type 0
   Obeyed bs o (Some a) cs = Made bs o a cs
   Obeyed bs o None cs = (length bs ≤ o.broker) × (cs ≡ bs)
 
-  pub data Obeys (bs : List (Broker P)) : List Order → List (Option Answer) → List Tagged → List (Broker P) → Type 0 where
+  pub data Obeys (bs : List (Broker P q)) : List Order → List (Option (Result Answer Refusal)) → List Tagged → List (Broker P q) → Type 0 where
     none : Obeys bs [] [] [] bs
-    one : {os : List Order} {rs : List (Option Answer)} {h : List Tagged} {cs ds : List (Broker P)} {o : Order} {a : Answer} →
+    one : {os : List Order} {rs : List (Option (Result Answer Refusal))} {h : List Tagged} {cs ds : List (Broker P q)} {o : Order} {a : Result Answer Refusal} →
         Obeys bs os rs h cs → (made : Made cs o a ds) → Obeys bs (os ++ o ∷ []) (rs ++ Some a ∷ []) (tagged o.broker (event o.call a (view made.after)) ∷ h) ds
-    nowhere : {os : List Order} {rs : List (Option Answer)} {h : List Tagged} {cs : List (Broker P)} (o : Order) →
+    nowhere : {os : List Order} {rs : List (Option (Result Answer Refusal))} {h : List Tagged} {cs : List (Broker P q)} (o : Order) →
         Obeys bs os rs h cs → length cs ≤ o.broker → Obeys bs (os ++ o ∷ []) (rs ++ None ∷ []) h cs
 
-  abbrev pub KeepsAll : List (Broker P) → List Tagged → List (Broker P) → Type 0
+  abbrev pub KeepsAll : List (Broker P q) → List Tagged → List (Broker P q) → Type 0
   KeepsAll bs h cs =
-      (i : ℕ) (b : Broker P) → At bs i b →
-      (d : Broker P) × At cs i d × ((g : List Event) → Led meaning g b → Led meaning (own i h ++ g) d × Guarantees (meaning d.price) (own i h ++ g))
+      (i : ℕ) (b : Broker P q) → At bs i b →
+      (d : Broker P q) × At cs i d × ((g : List Event) → Led g b → Led (own i h ++ g) d × Guarantees (meaning d) (own i h ++ g))
 
-  pub record Done (bs : List (Broker P)) (os : List Order) (before : List (Option Answer)) (cs : List (Broker P)) (after : List (Option Answer)) : Type 0 where
+  pub record Done (bs : List (Broker P q)) (os : List Order) (before : List (Option (Result Answer Refusal))) (cs : List (Broker P q)) (after : List (Option (Result Answer Refusal))) : Type 0 where
     pub events : List Tagged
     pub obeyed : Obeys bs os (take (length os) after) events cs
     pub kept : KeepsAll bs events cs
     pub behind : drop (length os) after ≡ drop (length os) before
 
-  abbrev pub Rehearsed : List (Broker P) → List Order → List (Option Answer) → Result (Unit {0}) Refusal → List (Broker P) → List (Option Answer) → Type 0
+  abbrev pub Rehearsed : List (Broker P q) → List Order → List (Option (Result Answer Refusal)) → Result (Unit {0}) Refusal → List (Broker P q) → List (Option (Result Answer Refusal)) → Type 0
   Rehearsed bs os before (Ok _) cs after = (length os ≤ length before) × Done bs os before cs after
   Rehearsed bs os before (Err r) cs after = (length before < length os) × (r ≡ BufferTooShort) × (cs ≡ bs) × (after ≡ before)

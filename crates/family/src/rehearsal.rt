@@ -7,8 +7,8 @@ use price::Price;
 use rules::{Answer, Refusal};
 
 // Performs an order on its broker, if there is one.
-fn obey<P: Price>(brokers: &mut [Broker<P>], order: Order) -> Option<Answer>
-    ensures { Obeyed P.Price.meaning brokers.old order result brokers.new }
+fn obey<P: Price>(brokers: &mut [Broker<P>], order: Order) -> Option<Result<Answer, Refusal>>
+    ensures { Obeyed brokers.old order result brokers.new }
 {
     if order.broker >= brokers.len() {
         return None;
@@ -22,9 +22,9 @@ fn obey<P: Price>(brokers: &mut [Broker<P>], order: Order) -> Option<Answer>
 pub fn rehearse<P: Price>(
     brokers: &mut [Broker<P>],
     orders: &[Order],
-    answers: &mut [Option<Answer>],
+    answers: &mut [Option<Result<Answer, Refusal>>],
 ) -> Result<(), Refusal>
-    ensures { Rehearsed P.Price.meaning brokers.old orders.now answers.old result brokers.new answers.new }
+    ensures { Rehearsed brokers.old orders.now answers.old result brokers.new answers.new }
 {
     if answers.len() < orders.len() {
         return Err(Refusal::BufferTooShort);

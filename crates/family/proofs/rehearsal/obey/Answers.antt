@@ -8,6 +8,6 @@ returns g c =
       before = _;
       after = c.perform.new.self;
       there = nth_within c.args.brokers.now c.args.order.broker c.index-brokers-order.result c.if-order-brokers.false;
-      called = c.perform.ensures;
+      stepped = c.perform.ensures;
       others = refl;
     }

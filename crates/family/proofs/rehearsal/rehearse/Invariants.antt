@@ -2,4 +2,4 @@ use Rattle.family.proofs.Obeying.{Sofar}
 use Rattle.family.proofs.rehearsal.rehearse.Given as goal
 
 abbrev pub invariant-loop-i : goal.invariant-loop-i
-invariant-loop-i g l = Sofar g.P.Price.meaning l.initial.brokers l.orders l.initial.answers l.i l.brokers l.answers
+invariant-loop-i g l = Sofar l.initial.brokers l.orders l.initial.answers l.i l.brokers l.answers
