@@ -1,21 +1,25 @@
 //! Calls on a broker in rows.
 use broker::Broker;
 use price::Price;
-use rules::{Answer, Call, Quote, Refusal};
+use rules::{Admission, Answer, Call, Estimate, Quote, Refusal};
 use std::process::Abort;
 
 pub fn start(unit: u32, frames: u32) -> Call {
     Call::Start { unit, frames }
 }
 
-pub fn admit(client: u32, shares: u32, class: u32, minimum: u32, maximum: u32) -> Call {
-    Call::Admit {
+pub fn admission(client: u32, shares: u32, class: u32, minimum: u32, maximum: u32) -> Admission {
+    Admission {
         client,
         shares,
         class,
         minimum,
         maximum,
     }
+}
+
+pub fn admit(client: u32, shares: u32, class: u32, minimum: u32, maximum: u32) -> Call {
+    Call::Admit(admission(client, shares, class, minimum, maximum))
 }
 
 pub fn ask(client: u32) -> Call {
@@ -33,8 +37,7 @@ pub fn leave(client: u32) -> Call {
 pub fn estimate(client: u32, active: u32, end: u32) -> Call {
     Call::SetEstimate {
         client,
-        active,
-        end,
+        estimate: Estimate { active, end },
     }
 }
 
@@ -42,18 +45,10 @@ pub fn clock(tick: u32) -> Call {
     Call::SetClock { tick }
 }
 
-/// Makes each call and compares its answer.
+/// Makes each call, which is accepted, and compares its answer.
 pub fn answers<P: Price>(rt: &impl Abort, broker: &mut Broker<P>, rows: &[(Call, Answer)]) {
     for (call, answer) in rows {
-        assert_eq!(rt; broker.perform(*call), *answer);
-    }
-}
-
-/// The number of the refusal that a call is answered, if it is refused.
-pub fn refusal_number(answer: Answer) -> Option<u8> {
-    match answer {
-        Answer::Refused(refusal) => Some(refusal.number()),
-        _ => None,
+        assert_eq!(rt; broker.perform(*call), Ok(*answer));
     }
 }
 
@@ -96,31 +91,54 @@ fn questions<P: Price>(broker: &Broker<P>) -> Shown {
     }
 }
 
-/// Makes each call, compares the number that it is refused with, and looks that no question shows a change.
-pub fn refuses<P: Price>(rt: &impl Abort, broker: &mut Broker<P>, rows: &[(Call, u8)]) {
+/// Makes each call, compares its refusal, and looks that no question shows a change.
+pub fn refuses<P: Price>(rt: &impl Abort, broker: &mut Broker<P>, rows: &[(Call, Refusal)]) {
     let before = questions(broker);
-    for (call, number) in rows {
-        assert_eq!(rt; refusal_number(broker.perform(*call)), Some(*number));
+    for (call, refusal) in rows {
+        assert_eq!(rt; broker.perform(*call), Err(*refusal));
         assert_eq!(rt; questions(broker), before);
     }
 }
 
-/// Makes the ask of each client and compares the frame and its former owner, or the refusal's number. Each slip is
-/// delivered at once.
+/// A frame that a client gets, and its former owner, 0 for a free frame.
+#[derive(Clone, Copy, PartialEq, Debug, Drop)]
+pub struct Got {
+    pub frame: u32,
+    pub former: u32,
+}
+
+/// What a client gets of the free frames.
+pub fn free(frame: u32) -> Result<Got, Refusal> {
+    Ok(Got { frame, former: 0 })
+}
+
+/// What it gets of another client.
+pub fn taken(frame: u32, former: u32) -> Result<Got, Refusal> {
+    Ok(Got { frame, former })
+}
+
+/// What a slip says of it, where this answer is one.
+fn told(answer: Answer) -> Option<Got> {
+    match answer {
+        Answer::Granted(slip) => Some(Got {
+            frame: slip.frame,
+            former: slip.former,
+        }),
+        _ => None,
+    }
+}
+
+/// Makes the ask of each client, and compares what the client gets. Each slip is delivered at once.
 pub fn asks<P: Price>(
     rt: &impl Abort,
     broker: &mut Broker<P>,
-    rows: &[(u32, Result<(u32, u32), u8>)],
+    rows: &[(u32, Result<Got, Refusal>)],
 ) {
     for (client, outcome) in rows {
-        let answer = match broker.perform(ask(*client)) {
-            Answer::Granted(slip) => {
-                assert_eq!(rt; broker.perform(Call::Deliver { slip }), Answer::Done);
-                Ok((slip.frame, slip.former))
-            }
-            Answer::Refused(refusal) => Err(refusal.number()),
-            _ => Err(0),
-        };
-        assert_eq!(rt; answer, *outcome);
+        let answer = broker.perform(ask(*client));
+        if let Ok(Answer::Granted(slip)) = answer {
+            assert_eq!(rt; broker.perform(Call::Deliver { slip }), Ok(Answer::Done));
+        }
+        assert_eq!(rt; answer.map(told), outcome.map(Some));
     }
 }

@@ -1,19 +1,18 @@
 //! A price that tells the same of every offer, so that only the last tests of the rank decide.
-ghost use Rattle.std.specs.Prelude.{refl};
-ghost use Rattle.std.proofs.Common.{arith};
+ghost use Rattle.broker_tests.specs.Flat.{flat, flat_is};
 
 use crate::calls::*;
 use broker::Broker;
 use price::{Price, ValidOffer};
-use rules::{Answer, Quote};
+use rules::{Answer, Quote, Refusal};
 
 #[derive(Drop)]
 struct FlatPrice;
 
 impl Price for FlatPrice {
-    ghost meaning = { λ _ _. record { class = 0; top = 1; bottom = 1 } };
+    ghost meaning = { λ _. flat };
 
-    ghost lawful = { λ _. record { in_range = λ o v. record { low_class = omega arith; some_top = omega arith; few_top = omega arith; some_bottom = omega arith; few_bottom = omega arith }; one_class = λ o j k v w. refl; falling = λ o j k v w h. omega arith } };
+    ghost lawful = { λ _. flat_is };
 
     fn quote(&self, _offer: ValidOffer) -> Quote {
         Quote {
@@ -40,20 +39,29 @@ fn equal_quotes_rank_by_client_and_then_by_count(rt: HostRuntime) {
     asks(
         &rt,
         &mut broker,
-        &[(1, Ok((1, 0))), (2, Ok((2, 0))), (2, Ok((3, 0)))],
+        &[(1, free(1)), (2, free(2)), (2, free(3))],
     );
     // the higher number pays less, and a client's own bid at one frame more ranks below its bid
     assert_eq!(rt; broker.lowest_payer(), Some(2));
     asks(
         &rt,
         &mut broker,
-        &[(2, Err(18)), (1, Ok((3, 2))), (1, Ok((2, 2))), (2, Err(18))],
+        &[
+            (2, Err(Refusal::Outbid)),
+            (1, taken(3, 2)),
+            (1, taken(2, 2)),
+            (2, Err(Refusal::Outbid)),
+        ],
     );
     // client 3 gets its minimum without a comparison; then client 1 is the lowest payer itself
     asks(
         &rt,
         &mut broker,
-        &[(3, Ok((2, 1))), (3, Err(18)), (1, Err(18))],
+        &[
+            (3, taken(2, 1)),
+            (3, Err(Refusal::Outbid)),
+            (1, Err(Refusal::Outbid)),
+        ],
     );
     assert_eq!(rt; broker.lowest_payer(), Some(1));
 }

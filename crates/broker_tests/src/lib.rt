@@ -9,6 +9,8 @@ mod flat;
 #[cfg(test)]
 mod methods;
 #[cfg(test)]
+mod numbers;
+#[cfg(test)]
 mod passages;
 #[cfg(test)]
 mod ranges;

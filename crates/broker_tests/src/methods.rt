@@ -3,15 +3,15 @@ use crate::calls::*;
 use crate::slips::{ask_and_deliver, deliver_elsewhere_first};
 use broker::Broker;
 use price::SharePrice;
-use rules::{Call, Refusal, SlipNumbers};
+use rules::{Call, Estimate, Refusal, SlipNumbers};
 use std::test::Fail;
 
 #[test]
 fn a_delivered_slip_closes_its_passage(rt: HostRuntime) -> Result<(), Fail> {
     let mut broker = Broker::new(SharePrice);
     broker.start(7, 2)?;
-    broker.admit(1, 300, 0, 0, 2)?;
-    broker.admit(2, 100, 0, 0, 1)?;
+    broker.admit(admission(1, 300, 0, 0, 2))?;
+    broker.admit(admission(2, 100, 0, 0, 1))?;
     let first = SlipNumbers {
         unit: 7,
         client: 1,
@@ -20,8 +20,12 @@ fn a_delivered_slip_closes_its_passage(rt: HostRuntime) -> Result<(), Fail> {
         asks: 1,
     };
     assert_eq!(rt; ask_and_deliver(&mut broker, 1), Ok(first));
-    refuses(&rt, &mut broker, &[(Call::Deliver { slip: first }, 23)]);
-    broker.estimate(1, 1, 3)?;
+    refuses(
+        &rt,
+        &mut broker,
+        &[(Call::Deliver { slip: first }, Refusal::NotTheOpenSlip)],
+    );
+    broker.estimate(1, Estimate { active: 1, end: 3 })?;
     let second = SlipNumbers {
         client: 2,
         frame: 2,
@@ -54,22 +58,27 @@ fn a_delivered_slip_closes_its_passage(rt: HostRuntime) -> Result<(), Fail> {
 fn a_slip_is_judged_by_its_numbers(rt: HostRuntime) -> Result<(), Fail> {
     // another unit hands the slip back; the same five numbers close the passage of another broker
     for (unit, refusal, first, second) in [
-        (8, Some(Refusal::NotTheOpenSlip), None, Some(12)),
-        (7, None, Some(12), None),
+        (
+            8,
+            Some(Refusal::NotTheOpenSlip),
+            None,
+            Some(Refusal::PassageOpen),
+        ),
+        (7, None, Some(Refusal::PassageOpen), None),
     ] {
         let mut broker = Broker::new(SharePrice);
         let mut other = Broker::new(SharePrice);
         broker.start(7, 1)?;
-        broker.admit(1, 1, 0, 0, 1)?;
+        broker.admit(admission(1, 1, 0, 0, 1))?;
         other.start(unit, 1)?;
-        other.admit(1, 1, 0, 0, 1)?;
-        other.perform(ask(1));
+        other.admit(admission(1, 1, 0, 0, 1))?;
+        other.perform(ask(1))?;
         assert_eq!(rt;
             deliver_elsewhere_first(&mut broker, &mut other, 1),
             Ok(refusal)
         );
-        assert_eq!(rt; refusal_number(broker.perform(clock(1))), first);
-        assert_eq!(rt; refusal_number(other.perform(clock(1))), second);
+        assert_eq!(rt; broker.perform(clock(1)).err(), first);
+        assert_eq!(rt; other.perform(clock(1)).err(), second);
     }
     Ok(())
 }

@@ -2,7 +2,7 @@
 use crate::calls::*;
 use broker::Broker;
 use price::SharePrice;
-use rules::{Answer, Call, SlipNumbers};
+use rules::{Answer, Call, Refusal, SlipNumbers};
 
 #[test]
 fn an_open_passage_waits_for_its_slip(rt: HostRuntime) {
@@ -20,7 +20,7 @@ fn an_open_passage_waits_for_its_slip(rt: HostRuntime) {
     asks(
         &rt,
         &mut broker,
-        &[(2, Ok((1, 0))), (2, Ok((2, 0))), (2, Ok((3, 0)))],
+        &[(2, free(1)), (2, free(2)), (2, free(3))],
     );
     let slip = SlipNumbers {
         unit: 7,
@@ -29,8 +29,12 @@ fn an_open_passage_waits_for_its_slip(rt: HostRuntime) {
         former: 2,
         asks: 4,
     };
-    refuses(&rt, &mut broker, &[(Call::Deliver { slip }, 23)]);
-    assert_eq!(rt; broker.perform(ask(1)), Answer::Granted(slip));
+    refuses(
+        &rt,
+        &mut broker,
+        &[(Call::Deliver { slip }, Refusal::NotTheOpenSlip)],
+    );
+    assert_eq!(rt; broker.perform(ask(1)), Ok(Answer::Granted(slip)));
     assert_eq!(rt; broker.holding(1), Ok(1));
     assert_eq!(rt; broker.holding(2), Ok(2));
     assert_eq!(rt; broker.lowest_payer(), Some(2));
@@ -38,18 +42,18 @@ fn an_open_passage_waits_for_its_slip(rt: HostRuntime) {
         &rt,
         &mut broker,
         &[
-            (start(7, 0), 1),
-            (start(7, 3), 11),
-            (admit(3, 1, 10, 0, 1), 4),
-            (admit(3, 1, 0, 0, 1), 12),
-            (ask(300), 2),
-            (ask(3), 12),
-            (ask(1), 12),
-            (hand_back(1), 12),
-            (leave(1), 12),
-            (estimate(1, 4, 5), 12),
-            (clock(4), 12),
-            (clock(6), 12),
+            (start(7, 0), Refusal::PoolOutOfRange),
+            (start(7, 3), Refusal::AlreadyStarted),
+            (admit(3, 1, 10, 0, 1), Refusal::ClassOutOfRange),
+            (admit(3, 1, 0, 0, 1), Refusal::PassageOpen),
+            (ask(300), Refusal::ClientOutOfRange),
+            (ask(3), Refusal::PassageOpen),
+            (ask(1), Refusal::PassageOpen),
+            (hand_back(1), Refusal::PassageOpen),
+            (leave(1), Refusal::PassageOpen),
+            (estimate(1, 4, 5), Refusal::PassageOpen),
+            (clock(4), Refusal::PassageOpen),
+            (clock(6), Refusal::PassageOpen),
         ],
     );
     for wrong in [
@@ -59,9 +63,17 @@ fn an_open_passage_waits_for_its_slip(rt: HostRuntime) {
         SlipNumbers { former: 0, ..slip },
         SlipNumbers { asks: 3, ..slip },
     ] {
-        refuses(&rt, &mut broker, &[(Call::Deliver { slip: wrong }, 23)]);
+        refuses(
+            &rt,
+            &mut broker,
+            &[(Call::Deliver { slip: wrong }, Refusal::NotTheOpenSlip)],
+        );
     }
     answers(&rt, &mut broker, &[(Call::Deliver { slip }, Answer::Done)]);
-    refuses(&rt, &mut broker, &[(Call::Deliver { slip }, 23)]);
+    refuses(
+        &rt,
+        &mut broker,
+        &[(Call::Deliver { slip }, Refusal::NotTheOpenSlip)],
+    );
     answers(&rt, &mut broker, &[(clock(6), Answer::Count(0))]);
 }

@@ -13,15 +13,15 @@ fn units_and_frames_of_a_start(rt: HostRuntime) {
             &rt,
             &mut broker,
             &[
-                (start(0, 1), 1),
-                (start(1_000, 1), 1),
-                (start(1, 0), 1),
-                (start(1, 4_097), 1),
-                (ask(1), 14),
-                (hand_back(1), 14),
-                (leave(1), 14),
-                (estimate(1, 0, 1), 14),
-                (admit(1, 1, 0, 0, 1), 15),
+                (start(0, 1), Refusal::PoolOutOfRange),
+                (start(1_000, 1), Refusal::PoolOutOfRange),
+                (start(1, 0), Refusal::PoolOutOfRange),
+                (start(1, 4_097), Refusal::PoolOutOfRange),
+                (ask(1), Refusal::NotAdmitted),
+                (hand_back(1), Refusal::NotAdmitted),
+                (leave(1), Refusal::NotAdmitted),
+                (estimate(1, 0, 1), Refusal::NotAdmitted),
+                (admit(1, 1, 0, 0, 1), Refusal::MaximumAboveFrames),
             ],
         );
         answers(
@@ -37,7 +37,11 @@ fn units_and_frames_of_a_start(rt: HostRuntime) {
         refuses(
             &rt,
             &mut broker,
-            &[(start(1, 1), 11), (start(1, 0), 1), (clock(4), 22)],
+            &[
+                (start(1, 1), Refusal::AlreadyStarted),
+                (start(1, 0), Refusal::PoolOutOfRange),
+                (clock(4), Refusal::TickBeforeClock),
+            ],
         );
     }
 }
@@ -50,15 +54,15 @@ fn terms_of_an_admission(rt: HostRuntime) {
         &rt,
         &mut broker,
         &[
-            (admit(0, 0, 10, 1, 0), 2),
-            (admit(257, 0, 10, 1, 0), 2),
-            (admit(1, 0, 10, 1, 0), 3),
-            (admit(1, 1_000_001, 10, 1, 0), 3),
-            (admit(1, 1, 10, 1, 0), 4),
-            (admit(1, 1, 256, 1, 0), 4),
-            (admit(1, 1, 9, 0, 0), 5),
-            (admit(1, 1, 9, 6, 5), 5),
-            (admit(1, 1, 9, 5, 5), 15),
+            (admit(0, 0, 10, 1, 0), Refusal::ClientOutOfRange),
+            (admit(257, 0, 10, 1, 0), Refusal::ClientOutOfRange),
+            (admit(1, 0, 10, 1, 0), Refusal::SharesOutOfRange),
+            (admit(1, 1_000_001, 10, 1, 0), Refusal::SharesOutOfRange),
+            (admit(1, 1, 10, 1, 0), Refusal::ClassOutOfRange),
+            (admit(1, 1, 256, 1, 0), Refusal::ClassOutOfRange),
+            (admit(1, 1, 9, 0, 0), Refusal::MaximumOutOfRange),
+            (admit(1, 1, 9, 6, 5), Refusal::MaximumOutOfRange),
+            (admit(1, 1, 9, 5, 5), Refusal::MaximumAboveFrames),
         ],
     );
     answers(
@@ -73,14 +77,18 @@ fn terms_of_an_admission(rt: HostRuntime) {
         &rt,
         &mut broker,
         &[
-            (admit(1, 1, 10, 0, 1), 4),
-            (admit(1, 1, 0, 5, 5), 13),
-            (admit(2, 1, 0, 2, 4), 16),
+            (admit(1, 1, 10, 0, 1), Refusal::ClassOutOfRange),
+            (admit(1, 1, 0, 5, 5), Refusal::AlreadyAdmitted),
+            (admit(2, 1, 0, 2, 4), Refusal::MinimumsAboveFrames),
         ],
     );
     // the minimums come to the frames
     answers(&rt, &mut broker, &[(admit(2, 1, 0, 1, 4), Answer::Done)]);
-    refuses(&rt, &mut broker, &[(admit(3, 1, 0, 1, 1), 16)]);
+    refuses(
+        &rt,
+        &mut broker,
+        &[(admit(3, 1, 0, 1, 1), Refusal::MinimumsAboveFrames)],
+    );
     answers(
         &rt,
         &mut broker,
@@ -118,12 +126,12 @@ fn ends_of_estimates_and_ticks(rt: HostRuntime) {
         &rt,
         &mut broker,
         &[
-            (estimate(0, 5, 7), 2),
-            (estimate(257, 5, 7), 2),
-            (estimate(2, 5, 7), 14),
-            (estimate(1, 5, 7), 20),
-            (estimate(1, 4, 7), 21),
-            (clock(6), 22),
+            (estimate(0, 5, 7), Refusal::ClientOutOfRange),
+            (estimate(257, 5, 7), Refusal::ClientOutOfRange),
+            (estimate(2, 5, 7), Refusal::NotAdmitted),
+            (estimate(1, 5, 7), Refusal::ActiveAboveFrames),
+            (estimate(1, 4, 7), Refusal::EndNotAfterClock),
+            (clock(6), Refusal::TickBeforeClock),
         ],
     );
     answers(
@@ -143,7 +151,10 @@ fn ends_of_estimates_and_ticks(rt: HostRuntime) {
     refuses(
         &rt,
         &mut broker,
-        &[(estimate(1, 0, 4_294_967_295), 21), (clock(0), 22)],
+        &[
+            (estimate(1, 0, 4_294_967_295), Refusal::EndNotAfterClock),
+            (clock(0), Refusal::TickBeforeClock),
+        ],
     );
 }
 
@@ -191,12 +202,20 @@ fn questions_on_clients_and_counts(rt: HostRuntime) {
     asks(
         &rt,
         &mut broker,
-        &[(1, Ok((1, 0))), (1, Err(17)), (0, Err(2))],
+        &[
+            (1, free(1)),
+            (1, Err(Refusal::AtMaximum)),
+            (0, Err(Refusal::ClientOutOfRange)),
+        ],
     );
     answers(&rt, &mut broker, &[(hand_back(1), Answer::Frame(1))]);
     refuses(
         &rt,
         &mut broker,
-        &[(hand_back(1), 19), (hand_back(3), 14), (leave(257), 2)],
+        &[
+            (hand_back(1), Refusal::HoldsNoFrame),
+            (hand_back(3), Refusal::NotAdmitted),
+            (leave(257), Refusal::ClientOutOfRange),
+        ],
     );
 }

@@ -1,28 +1,51 @@
 //! The sample sessions, and two brokers under one lent price.
 use crate::calls::*;
 use broker::Broker;
-use price::{ClassPrice, Price, SharePrice, TaxedPrice, ValidOffer};
+use price::{ClassPrice, Price, SharePrice, TaxedPrice};
 use rules::{Answer, Quote, Refusal};
 use std::process::Abort;
 use std::test::Fail;
 
-/// A quote by its class, top and bottom.
-type Told = (u8, u32, u32);
+/// A free frame that a client gets, and the client's price with it.
+#[derive(Drop)]
+struct Free {
+    client: u32,
+    frame: u32,
+    paying: Quote,
+}
 
-fn quote((class, top, bottom): Told) -> Result<Quote, Refusal> {
-    Ok(Quote { class, top, bottom })
+/// Another client's frame that a client gets, the client's price with it, and the former owner's price before the loss.
+#[derive(Drop)]
+struct Taken {
+    client: u32,
+    frame: u32,
+    former: u32,
+    paying: Quote,
+    over: Quote,
+}
+
+/// How many frames a client holds, and its price there.
+#[derive(Drop)]
+struct Held {
+    client: u32,
+    holding: u32,
+    price: Quote,
+}
+
+fn quote(class: u8, top: u32, bottom: u32) -> Quote {
+    Quote { class, top, bottom }
 }
 
 /// Makes each ask of a client that gets a free frame, and compares the frame and the client's price with it.
 fn grants_free<P: Price>(
     rt: &impl Abort,
     broker: &mut Broker<P>,
-    rows: &[(u32, u32, Told)],
+    rows: &[Free],
 ) -> Result<(), Fail> {
-    for (client, frame, paying) in rows {
-        asks(rt, broker, &[(*client, Ok((*frame, 0)))]);
-        let holding = broker.holding(*client)?;
-        assert_eq!(rt; broker.price_at(*client, holding), quote(*paying));
+    for row in rows {
+        asks(rt, broker, &[(row.client, free(row.frame))]);
+        let holding = broker.holding(row.client)?;
+        assert_eq!(rt; broker.price_at(row.client, holding), Ok(row.paying));
     }
     Ok(())
 }
@@ -32,24 +55,24 @@ fn grants_free<P: Price>(
 fn grants_from<P: Price>(
     rt: &impl Abort,
     broker: &mut Broker<P>,
-    rows: &[(u32, u32, u32, Told, Told)],
+    rows: &[Taken],
 ) -> Result<(), Fail> {
-    for (client, frame, former, paying, over) in rows {
-        assert_eq!(rt; broker.lowest_payer(), Some(*former));
-        let held = broker.holding(*former)?;
-        assert_eq!(rt; broker.price_at(*former, held), quote(*over));
-        asks(rt, broker, &[(*client, Ok((*frame, *former)))]);
-        let holding = broker.holding(*client)?;
-        assert_eq!(rt; broker.price_at(*client, holding), quote(*paying));
+    for row in rows {
+        assert_eq!(rt; broker.lowest_payer(), Some(row.former));
+        let held = broker.holding(row.former)?;
+        assert_eq!(rt; broker.price_at(row.former, held), Ok(row.over));
+        asks(rt, broker, &[(row.client, taken(row.frame, row.former))]);
+        let holding = broker.holding(row.client)?;
+        assert_eq!(rt; broker.price_at(row.client, holding), Ok(row.paying));
     }
     Ok(())
 }
 
 /// Compares what each client holds, and its price there.
-fn holds<P: Price>(rt: &impl Abort, broker: &Broker<P>, rows: &[(u32, u32, Told)]) {
-    for (client, holding, price) in rows {
-        assert_eq!(rt; broker.holding(*client), Ok(*holding));
-        assert_eq!(rt; broker.price_at(*client, *holding), quote(*price));
+fn holds<P: Price>(rt: &impl Abort, broker: &Broker<P>, rows: &[Held]) {
+    for row in rows {
+        assert_eq!(rt; broker.holding(row.client), Ok(row.holding));
+        assert_eq!(rt; broker.price_at(row.client, row.holding), Ok(row.price));
     }
 }
 
@@ -69,38 +92,62 @@ fn session_under_the_share_price(rt: HostRuntime) -> Result<(), Fail> {
         &rt,
         &mut broker,
         &[
-            (2, 1, (0, 100, 1)),
-            (2, 2, (0, 100, 2)),
-            (2, 3, (0, 100, 3)),
+            Free {
+                client: 2,
+                frame: 1,
+                paying: quote(0, 100, 1),
+            },
+            Free {
+                client: 2,
+                frame: 2,
+                paying: quote(0, 100, 2),
+            },
+            Free {
+                client: 2,
+                frame: 3,
+                paying: quote(0, 100, 3),
+            },
         ],
     )?;
     grants_from(
         &rt,
         &mut broker,
         &[
-            (1, 3, 2, (0, 300, 1), (0, 100, 3)),
-            (1, 2, 2, (0, 300, 2), (0, 100, 2)),
+            Taken {
+                client: 1,
+                frame: 3,
+                former: 2,
+                paying: quote(0, 300, 1),
+                over: quote(0, 100, 3),
+            },
+            Taken {
+                client: 1,
+                frame: 2,
+                former: 2,
+                paying: quote(0, 300, 2),
+                over: quote(0, 100, 2),
+            },
         ],
     )?;
-    refuses(&rt, &mut broker, &[(ask(1), 18)]);
+    refuses(&rt, &mut broker, &[(ask(1), Refusal::Outbid)]);
     assert_eq!(rt; broker.free_frames(), 0);
-    holds(&rt, &broker, &[(1, 2, (0, 300, 2)), (2, 1, (0, 100, 1))]);
+    holds(
+        &rt,
+        &broker,
+        &[
+            Held {
+                client: 1,
+                holding: 2,
+                price: quote(0, 300, 2),
+            },
+            Held {
+                client: 2,
+                holding: 1,
+                price: quote(0, 100, 1),
+            },
+        ],
+    );
     Ok(())
-}
-
-#[derive(Drop)]
-struct Lent<'a, P> {
-    price: &'a P,
-}
-
-impl<'a, P: Price> Price for Lent<'a, P> {
-    ghost meaning = { λ p. P.Price.meaning p.price.now };
-
-    ghost lawful = { λ p. P.Price.lawful p.price.now };
-
-    fn quote(&self, offer: ValidOffer) -> Quote {
-        self.price.quote(offer)
-    }
 }
 
 /// The session under the class price over the taxed price at 75.
@@ -120,18 +167,46 @@ fn runs_taxed_session<P: Price>(rt: &impl Abort, broker: &mut Broker<P>) -> Resu
         rt,
         broker,
         &[
-            (1, 1, (0, 2500, 25)),
-            (1, 2, (0, 2500, 125)),
-            (2, 3, (0, 5000, 25)),
-            (2, 4, (0, 5000, 50)),
+            Free {
+                client: 1,
+                frame: 1,
+                paying: quote(0, 2500, 25),
+            },
+            Free {
+                client: 1,
+                frame: 2,
+                paying: quote(0, 2500, 125),
+            },
+            Free {
+                client: 2,
+                frame: 3,
+                paying: quote(0, 5000, 25),
+            },
+            Free {
+                client: 2,
+                frame: 4,
+                paying: quote(0, 5000, 50),
+            },
         ],
     )?;
     grants_from(
         rt,
         broker,
         &[
-            (2, 2, 1, (0, 5000, 75), (0, 2500, 125)),
-            (3, 2, 2, (2, 1250, 25), (0, 5000, 75)),
+            Taken {
+                client: 2,
+                frame: 2,
+                former: 1,
+                paying: quote(0, 5000, 75),
+                over: quote(0, 2500, 125),
+            },
+            Taken {
+                client: 3,
+                frame: 2,
+                former: 2,
+                paying: quote(2, 1250, 25),
+                over: quote(0, 5000, 75),
+            },
         ],
     )?;
     answers(
@@ -143,17 +218,36 @@ fn runs_taxed_session<P: Price>(rt: &impl Abort, broker: &mut Broker<P>) -> Resu
             (leave(3), Answer::Count(1)),
         ],
     );
-    refuses(rt, broker, &[(admit(3, 50, 2, 0, 5), 15)]);
+    refuses(
+        rt,
+        broker,
+        &[(admit(3, 50, 2, 0, 5), Refusal::MaximumAboveFrames)],
+    );
     assert_eq!(rt; broker.free_frames(), 2);
-    holds(rt, broker, &[(1, 1, (0, 2500, 25)), (2, 1, (0, 5000, 25))]);
+    holds(
+        rt,
+        broker,
+        &[
+            Held {
+                client: 1,
+                holding: 1,
+                price: quote(0, 2500, 25),
+            },
+            Held {
+                client: 2,
+                holding: 1,
+                price: quote(0, 5000, 25),
+            },
+        ],
+    );
     Ok(())
 }
 
 #[test]
 fn sessions_of_two_brokers_under_one_lent_price(rt: HostRuntime) -> Result<(), Fail> {
     let price = ClassPrice::new(TaxedPrice::new(75)?);
-    let mut first = Broker::new(Lent { price: &price });
-    let mut second = Broker::new(Lent { price: &price });
+    let mut first = Broker::new(&price);
+    let mut second = Broker::new(&price);
     runs_taxed_session(&rt, &mut first)?;
     assert_eq!(rt; second.free_frames(), 0);
     runs_taxed_session(&rt, &mut second)

@@ -13,6 +13,7 @@ impl<P: Price> Broker<P> {
         ensures { Ended tick self.old result self.new }
     {
         let mut ended: u32 = 0;
+        // Kept: an iterator is no plainer, since each step changes both the pool and the list of bids.
         while let Some(client) = self.pool.drop_ended(tick) {
             self.payers.relist(&self.price, &self.pool, client);
             ended += 1;
