@@ -1,6 +1,6 @@
 -- Lines, cut one after the other.
 use Rattle.std.proofs.Common.{◌≡◌, ℕ, ◌+◌, ◌-◌, ◌<◌, ◌≤◌, min, List, [], ◌∷◌, ◌++◌, length, get_or, take, drop, sym, refl, ap, ◌∙◌, subst, ⊎_elim, arith}
-use Rattle.std.proofs.lemmas.List.{length-append, length-drop, length-take, take_all, take-take, take_rest, take-append-drop, drop_more, drop_all}
+use Rattle.std.proofs.lemmas.List.{length-append, length-take, take_all, take-take, take_rest, take-append-drop, drop_more, drop_all}
 use Rattle.std.proofs.str.Laws.{order}
 use Rattle.events.specs.Input.{NoNewline, Cut, Cuts, none, ended, last}
 
@@ -27,10 +27,6 @@ line_head text n k e =
     (λ (h : n < 80). let same : k - 0 ≡ n = omega arith in ap (λ m. take m text) same ∙ sym (take_all 80 (take n text) (omega (arith, length-take n text))))
     (λ (h : 80 ≤ n). let same : k - 0 ≡ 80 = omega arith in ap (λ m. take m text) same ∙ sym (take-take 80 n text h))
     (order n 80)
-
--- the rest of an input is shorter by the line and its newline
-pub rest_shorter : (text : List ℕ) (behind : ℕ) → 0 < length text → 0 < behind → length (take (length text - behind) (drop behind text)) < length text
-rest_shorter text behind some on = omega (arith, ap length (take_rest text behind), length-drop behind text)
 
 -- lines after lines
 nothing_behind : (left : List ℕ) (lines : List (List ℕ)) → Cuts left [] lines → (lines ≡ []) × (left ≡ [])

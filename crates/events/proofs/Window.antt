@@ -107,7 +107,7 @@ fault_alike l m f a (no_end {k} {ns} {rest} begins all more) =
     let b = both_begin l m k ns rest a begins (omega arith) in
     no_end b.begins all (λ none. more (nothing_alike (80 - length (spelled k ns)) rest (omega (arith, count_few k)) (subst (Alike _ rest) none b.alike)))
 
-pub length_written : (e : Event) → AllByRecursion (λ n. n < 2 ^ 32) (numbers e) → length (written e) ≤ 56
+length_written : (e : Event) → AllByRecursion (λ n. n < 2 ^ 32) (numbers e) → length (written e) ≤ 56
 length_written e s = omega (arith, length_spelled (kind e) (numbers e) s, numbers_count e, count_few (kind e))
 
 pub first_80_decide : (l m : List ℕ) (r : Result Event Refusal) → take 80 m ≡ take 80 l → Verdict l r → Verdict m r

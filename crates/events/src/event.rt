@@ -37,6 +37,7 @@ fn event_of(k: EventKind, ns: [u32; 5]) -> Event
     ensures kind { kind result ≡ k }
     ensures numbers { numbers result ≡ take (count k) ns }
 {
+    // Kept: a vector of the numbers would have to be matched with a last arm that is never reached.
     let [a, b, c, d, e] = ns;
     match k {
         EventKind::Start => Event::Start { unit: a, frames: b },

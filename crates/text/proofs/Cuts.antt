@@ -4,8 +4,7 @@ use Rattle.std.proofs.lemmas.List.{length-take-le, take_all, take-take, take-app
 use Rattle.std.proofs.Math.Seq.{take-append-add}
 use Rattle.std.proofs.str.Laws.{order}
 use Rattle.rules.specs.declared.refusal.Refusal.{Refusal}
-use Rattle.text.specs.Texts.{Placed, spelt, cut}
-use Rattle.text.specs.declared.text.Text.{Text}
+use Rattle.text.specs.Texts.{Placed, cut}
 
 -- what fits is kept whole
 pub cut_short : (bs : List ℕ) → length bs ≤ 128 → cut bs ≡ bs
@@ -42,10 +41,6 @@ kept_front bs more room k h e =
         (λ (h : length more < room). take_all room more (omega arith) ∙ sym (take_all k more (omega arith)))
         (λ (h : room ≤ length more). let same : room ≡ k = omega arith in ap (λ n. take n more) same)
         (order (length more) room)
-
--- what a text says is never longer than it may be
-pub cut_spelt : (t : Text) → cut (spelt t) ≡ spelt t
-cut_spelt t = cut_short (spelt t) t.short
 
 -- a text that says some bytes, cut, says these and more bytes, cut, once they are put behind
 pub grown : {mid after : List ℕ} (bs more : List ℕ) → mid ≡ cut bs → after ≡ cut (mid ++ more) → after ≡ cut (bs ++ more)

@@ -17,6 +17,7 @@ impl Reader<'_> {
         self.next_word(Due::Separator)?;
         match self.next_word(Due::Number)? {
             Word::Number { value, .. } => Ok(value),
+            // Kept: words are one enum and the next one a method of the reader; which it is here is proved.
             _ => unreachable(),
         }
     }
@@ -29,6 +30,7 @@ impl Reader<'_> {
     {
         match self.next_word(Due::Letter)? {
             Word::Letter { form, .. } => Ok(form),
+            // Kept: as above.
             _ => unreachable(),
         }
     }

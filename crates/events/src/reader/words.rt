@@ -97,6 +97,7 @@ impl<'a> Reader<'a> {
     fn word(&self, due: Due) -> Option<Word<'a>>
         ensures { Stands due self.now.line.now self.now.at result }
     {
+        // Kept: the next word is one method and what is due a value; a closure would have to say what it looks for too.
         match due {
             Due::Letter => self.letter(),
             Due::Separator => self.separator(),

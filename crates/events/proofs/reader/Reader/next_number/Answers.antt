@@ -1,20 +1,14 @@
-use Rattle.std.proofs.Common.{ap, ◌∙◌}
+use Rattle.std.proofs.Common.{ap}
 use Rattle.std.proofs.lemmas.Result.{err_from_is_err_and}
 use Rattle.events.proofs.Words.{space_missed, number_missed}
 use Rattle.events.proofs.reader.Reader.next_number.Goals as goal
 
-pub returns-in_err-next_word : goal.returns-in_err-next_word
-returns-in_err-next_word c =
+pub returns-in_err-next_word-clause-cases : goal.returns-in_err-next_word-clause-cases
+returns-in_err-next_word-clause-cases c =
     let p = err_from_is_err_and c.from_residual.result c.from_residual.ensures.1 in
-    record {
-      line = c.next_word.ensures.line;
-      cases = rw (p.1, p.2) (space_missed _ _ _ _ c.in_err-next_word.ensures.cases);
-    }
+    rw (p.1, p.2) (space_missed _ _ _ _ c.in_err-next_word.ensures.cases)
 
-pub returns-in_err-value : goal.returns-in_err-value
-returns-in_err-value c =
+pub returns-in_err-value-clause-cases : goal.returns-in_err-value-clause-cases
+returns-in_err-value-clause-cases c =
     let p = err_from_is_err_and c.from_residual-in_err-value.result c.from_residual-in_err-value.ensures.1 in
-    record {
-      line = c.next_word-2.ensures.line ∙ c.next_word.ensures.line;
-      cases = rw (p.1, p.2) (number_missed _ _ _ _ _ _ _ (ap (λ x. x.now) c.next_word.ensures.line) c.in_ok-next_word.ensures.cases c.in_err-value.ensures.cases);
-    }
+    rw (p.1, p.2) (number_missed _ _ _ _ _ _ _ (ap (λ x. x.now) c.next_word.ensures.line) c.in_ok-next_word.ensures.cases c.in_err-value.ensures.cases)

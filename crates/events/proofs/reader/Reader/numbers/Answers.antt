@@ -23,16 +23,13 @@ as_many k ns n e long = long ∙ length-take-le n places (omega (arith, count_fe
 all_read : (ns rest : List ℕ) (n i : ℕ) → length ns ≡ n → length ns ≤ i → take i ns ≡ take n (ns ++ rest)
 all_read ns rest n i long end = take_all i ns end ∙ sym (take-append-le n ns rest (omega arith) ∙ take_all n ns (omega arith))
 
-pub returns-in_err-number : goal.returns-in_err-number
-returns-in_err-number c =
+pub returns-in_err-number-clause-cases : goal.returns-in_err-number-clause-cases
+returns-in_err-number-clause-cases c =
     let p = err_from_is_err_and c.from_residual.result c.from_residual.ensures.1 in
     let same = c.loop-number.invariant.0 in
     let long = as_many c.args.form.kind c.loop-number.number-items c.args.form.count c.requires.1 c.loop-number.auto.number-items in
     let few = length-take-le c.loop-number.number-index c.loop-number.number-items (omega (arith, c.loop-number-test.true, c.loop-number.auto.number-items)) in
-    record {
-      line = c.next_number.ensures.line ∙ same;
-      cases = rw (p.1, p.2) (number_fault _ _ _ _ _ _ (ap (λ l. l.now) same) (c.loop-number.invariant.1 _ c.requires.0) (omega (arith, few, long, c.requires.1, c.loop-number-test.true)) c.in_err-number.ensures.cases);
-    }
+    rw (p.1, p.2) (number_fault _ _ _ _ _ _ (ap (λ l. l.now) same) (c.loop-number.invariant.1 _ c.requires.0) (omega (arith, few, long, c.requires.1, c.loop-number-test.true)) c.in_err-number.ensures.cases)
 
 pub loop-number-preserved : goal.loop-number-preserved
 loop-number-preserved c =
@@ -41,14 +38,10 @@ loop-number-preserved c =
       λ k b. one_more _ _ k _ _ _ _ _ (ap (λ l. l.now) same) (omega (arith, c.loop-number-test.true, c.loop-number.auto.number-items)) (c.loop-number.invariant.1 k b) c.in_ok-number.ensures.cases,
     )
 
-pub returns : goal.returns
-returns c =
+pub returns-clause-cases : goal.returns-clause-cases
+returns-clause-cases c =
     let long = as_many c.args.form.kind c.loop-number.number-items c.args.form.count c.requires.1 c.loop-number.auto.number-items in
-    let whole = all_read c.loop-number.number-items (drop c.args.form.count places) (count c.args.form.kind) c.loop-number.number-index (omega (arith, long, c.requires.1)) (omega (arith, c.loop-number-test.false, c.loop-number.auto.number-items)) in
-    record {
-      line = c.loop-number.invariant.0;
-      cases = (
-        subst (λ ns. Behind c.args.self.now.line.now c.args.form.kind ns c.loop-number.self.at) whole (c.loop-number.invariant.1 _ c.requires.0),
-        omega (arith, long, c.requires.1, count_few c.args.form.kind, length-append c.loop-number.number-items (drop c.args.form.count places), length-drop c.args.form.count places),
-      );
-    }
+    let whole = all_read c.loop-number.number-items (drop c.args.form.count places) (count c.args.form.kind) c.loop-number.number-index (omega (arith, long, c.requires.1)) (omega (arith, c.loop-number-test.false, c.loop-number.auto.number-items)) in (
+      subst (λ ns. Behind c.args.self.now.line.now c.args.form.kind ns c.loop-number.self.at) whole (c.loop-number.invariant.1 _ c.requires.0),
+      omega (arith, long, c.requires.1, count_few c.args.form.kind, length-append c.loop-number.number-items (drop c.args.form.count places), length-drop c.args.form.count places),
+    )
