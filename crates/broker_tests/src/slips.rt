@@ -12,6 +12,7 @@ pub(crate) fn ask_and_deliver<P: Price>(
     let numbers = slip.numbers();
     match broker.deliver(slip) {
         Ok(()) => Ok(numbers),
+        // Kept: `unwrap` would have to let go of the slip in the error, which may not be let go.
         Err(_) => unreachable(),
     }
 }
@@ -30,6 +31,7 @@ pub(crate) fn deliver_elsewhere_first<P: Price>(
             let refusal = undelivered.refusal;
             match broker.deliver(undelivered.into_slip()) {
                 Ok(()) => Ok(Some(refusal)),
+                // Kept: as above.
                 Err(_) => unreachable(),
             }
         }

@@ -3,7 +3,7 @@
 
 #[cfg(test)]
 mod tests {
-    use events::{Event, LineFault, Lines, read};
+    use events::{Event, LineFault, Lines, read, read_input};
     use rules::{Admission, Estimate, Fault, FaultKind, Refusal};
     use std::test::Fail;
     use text::Line;
@@ -108,6 +108,13 @@ mod tests {
         assert_eq!(rt; &out[0..4], text(b"####"));
         assert_eq!(rt; Event::Ask { client: 12 }.write(&mut out), Ok(4));
         assert_eq!(rt; &out[0..4], text(b"Q 12"));
+    }
+
+    #[test]
+    fn input_read_whole(rt: HostRuntime) -> Result<(), Fail> {
+        let input = read_input(rt.alloc(), text(b"Q 1\nQ 2"))?;
+        assert_eq!(rt; input.as_slice(), text(b"Q 1\nQ 2"));
+        Ok(())
     }
 
     #[test]

@@ -31,6 +31,7 @@ pub struct Admission {
 #[derive(Clone, Copy, PartialEq, Eq, Debug, Drop)]
 pub enum Call {
     /// Gives a new broker its unit number and its frames.
+    // Kept: two numbers of different kinds, which a struct of their own would make no plainer.
     Start { unit: u32, frames: u32 },
     /// Admits a client under its terms.
     Admit(Admission),

@@ -2,10 +2,9 @@
 use Rattle.std.proofs.Common.{◌≡◌, ℕ, List, [], ◌∷◌, ◌++◌, Some, None, Option, sym, ap, ◌∙◌, subst, append_assoc}
 use Rattle.std.proofs.lemmas.List.{append-nil}
 use Rattle.std.specs.Io.KnownBytes.{Appends, Keeps}
-use Rattle.std.specs.Iterator.{Yields}
 use Rattle.price.specs.declared.telling.Price.{Ghosts}
 use Rattle.session.specs.declared.printed.Printed.{Printed}
-use Rattle.session.specs.Run.{Run, Nexts, Gives, none, some, ended, lines}
+use Rattle.session.specs.Run.{Run, Nexts, Gives, PrintsRun, none, some, ended, lines}
 
 pub appends_nothing : (a : Option (List ℕ)) → Appends a a []
 appends_nothing None = tt
@@ -31,7 +30,24 @@ lines_on (w ∷ vs) v = ap (λ z. ended w ++ z) (lines_on vs v) ∙ sym (append_
 pub value_printed : (a b c : Option (List ℕ)) (vs : List Printed) (v : Printed) → Appends a b (lines vs) → Appends b c (ended v) → Appends a c (lines (vs ++ v ∷ []))
 value_printed a b c vs v h k = subst (Appends a c) (sym (lines_on vs v)) (appends_on a b c (lines vs) (ended v) h k)
 
--- what calls gave until the run gave none
-pub gives_yielded : {P : Type 0} {g : Ghosts P} (r : Run P g) (vs : List Printed) (t u : Run P g) → Yields Nexts r vs t → Nexts t None u → Gives r vs
-gives_yielded r [] t u e n = none (subst (λ s. Nexts s None u) (sym e) n)
-gives_yielded r (v ∷ vs) t u (j, n, y) last = some n (gives_yielded j vs t u y last)
+-- what a run gave so far is printed, and whatever it gives from here on comes behind that
+pub record Sofar {P : Type 0} {g : Ghosts P} (first : Run P g) (before : Option (List ℕ)) (r : Run P g) (after : Option (List ℕ)) : Type 0 where
+  pub given : List Printed
+  pub prints : Appends before after (lines given)
+  pub gives : (vs : List Printed) → Gives r vs → Gives first (given ++ vs)
+
+pub sofar_more : {P : Type 0} {g : Ghosts P} {first r s : Run P g} {a b c : Option (List ℕ)} {v : Printed} → Sofar first a r b → Nexts r (Some v) s → Appends b c (ended v) → Sofar first a s c
+sofar_more {first = first} {a = a} {b = b} {c = c} {v = v} sofar n k =
+    record {
+      given = sofar.given ++ v ∷ [];
+      prints = value_printed a b c sofar.given v sofar.prints k;
+      gives = λ vs h. subst (Gives first) (sym (append_assoc sofar.given (v ∷ []) vs)) (sofar.gives (v ∷ vs) (some n h));
+    }
+
+pub sofar_all : {P : Type 0} {g : Ghosts P} {first r s : Run P g} {a b : Option (List ℕ)} → Sofar first a r b → Nexts r None s → PrintsRun first a b
+sofar_all {first = first} sofar n =
+    record {
+      all = sofar.given;
+      gives = subst (Gives first) (append-nil sofar.given) (sofar.gives [] (none n));
+      prints = sofar.prints;
+    }

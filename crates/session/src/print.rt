@@ -11,10 +11,11 @@ use std::io::{Read, Write};
 use text::Line;
 
 /// Prints all that a run gives, line by line.
-pub fn print_all<P: Price + Drop, W: Write>(run: &mut Run<P>, out: &mut W) -> io::Result<()>
+pub fn print_all<P: Price, W: Write>(run: &mut Run<P>, out: &mut W) -> io::Result<()>
     ensures { OnOk result (PrintsRun run.old (W.contents out.old) (W.contents out.new)) }
 {
-    for value in run {
+    // Kept: a `for` would ask more of callers, since a run is an iterator only where its price may be let go.
+    while let Some(value) = run.advance() {
         value.print(out)?;
     }
     Ok(())

@@ -1,6 +1,6 @@
 //! Runs of whole inputs.
 use price::{ClassPrice, Price, SharePrice, TaxedPrice};
-use session::{Printed, Run, Session};
+use session::{Printed, Run, Session, serve};
 use std::process::Abort;
 use std::test::Fail;
 use text::Line;
@@ -30,6 +30,18 @@ fn runs<P: Price + Drop>(rt: &impl Abort, run: &mut Run<P>, lines: &[&[u8]]) -> 
 #[test]
 fn empty_input(rt: HostRuntime) -> Result<(), Fail> {
     runs(&rt, &mut Run::new(SharePrice, b""), &[b"end free 0"])
+}
+
+// An input is read, performed and printed whole.
+#[test]
+fn an_input_is_served(rt: HostRuntime) -> Result<(), Fail> {
+    let input: &[u8] = b"S 7 1\nA 1 300 0 0 1\nQ 1";
+    let lines: &[u8] =
+        b"pool 7 frames 1\nadmit 1\ngrant 1 frame 1 from 0 paying 0:300/1\nend free 0\nclient 1 holds 1 price 0:300/1\n";
+    let mut out = Vec::new(rt.alloc());
+    serve(SharePrice, rt.alloc(), input, &mut out)?;
+    assert_eq!(rt; out.as_slice(), lines);
+    Ok(())
 }
 
 // A frame is taken from the lowest payer, which is told with its price before the loss; the last ask is outbid.

@@ -34,6 +34,7 @@ pub fn listing(heap: Global, words: &[String]) -> Result<String, Fault>
     let request = Request::read(words)?;
     // a longer sheet is cut to 4,097 places, which are refused alike
     let places = request.length.min(4_097) as usize;
+    // Kept: a `Vec` could fail for want of memory, where the sheet is refused now.
     let mut sheet = [0; 4_097];
     sheet_text(heap, request, &mut sheet[..places])
 }

@@ -18,6 +18,7 @@ fn run(rt: &HostRuntime) -> anyhow::Result<()> {
 }
 
 fn main(rt: HostRuntime) -> ExitCode {
+    // Kept: a fault that `main` itself answers is printed with other words in front.
     match run(&rt) {
         Ok(()) => ExitCode::SUCCESS,
         Err(fault) => {

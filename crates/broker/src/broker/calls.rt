@@ -51,6 +51,7 @@ impl<P: Price> Broker<P> {
                 slip.spent = true;
                 Ok(())
             }
+            // Kept: neither arm only hands on: a slip is spent, or goes back with its refusal.
             Err(refusal) => Err(Undelivered { refusal, slip }),
         }
     }

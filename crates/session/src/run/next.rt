@@ -84,9 +84,20 @@ impl<'a, P: Price> Run<'a, P> {
         let client = self.session.broker.next_client(after)?;
         Some(self.report_client(client))
     }
+
+    /// What is printed next: of the next line, then the free frames, then of each client by rising number, and then nothing
+    /// more.
+    pub fn advance(&mut self) -> Option<Printed>
+        ensures { Nexts self.old result self.new }
+    {
+        match self.stage {
+            Stage::Reading => Some(self.next_line()),
+            Stage::Reporting { after } => self.next_client(after),
+        }
+    }
 }
 
-/// What is printed of each line, then the free frames, then of each client by rising number.
+/// A run gives what is printed, value by value.
 impl<P: Price + Drop> Iterator for Run<'_, P> {
     type Item = Printed;
 
@@ -95,9 +106,6 @@ impl<P: Price + Drop> Iterator for Run<'_, P> {
     ghost remaining = { λ run. at_most (left run) };
 
     fn next(&mut self) -> Option<Printed> {
-        match self.stage {
-            Stage::Reading => Some(self.next_line()),
-            Stage::Reporting { after } => self.next_client(after),
-        }
+        self.advance()
     }
 }

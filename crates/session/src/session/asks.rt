@@ -59,6 +59,7 @@ impl<P: Price> Session<P> {
         let grant = self.grant(slip.numbers());
         match self.broker.deliver(slip) {
             Ok(()) => Ok(Printed::Grant(grant?)),
+            // Kept: `unwrap` would have to let go of the slip in the error, which may not be let go.
             Err(_) => unreachable(),
         }
     }
