@@ -1,7 +1,8 @@
 //! The sample sessions, and two brokers under one lent price.
 use crate::calls::*;
 use broker::Broker;
-use price::{ClassPrice, Price, SharePrice, TaxedPrice};
+use either::{Either, Right};
+use price::{ClassPrice, Price, SharePrice, TaxedPrice, ValidOffer};
 use rules::{Answer, Quote, Refusal};
 use std::process::Abort;
 use std::test::Fail;
@@ -150,6 +151,22 @@ fn session_under_the_share_price(rt: HostRuntime) -> Result<(), Fail> {
     Ok(())
 }
 
+/// A price of the tests' own that borrows the price that it tells.
+#[derive(Drop)]
+struct Lent<'a, P> {
+    price: &'a P,
+}
+
+impl<'a, P: Price> Price for Lent<'a, P> {
+    ghost meaning = { λ p. P.Price.meaning p.price.now };
+
+    ghost lawful = { λ p. P.Price.lawful p.price.now };
+
+    fn quote(&self, offer: ValidOffer) -> Quote {
+        self.price.quote(offer)
+    }
+}
+
 /// The session under the class price over the taxed price at 75.
 fn runs_taxed_session<P: Price>(rt: &impl Abort, broker: &mut Broker<P>) -> Result<(), Fail> {
     answers(
@@ -246,9 +263,16 @@ fn runs_taxed_session<P: Price>(rt: &impl Abort, broker: &mut Broker<P>) -> Resu
 #[test]
 fn sessions_of_two_brokers_under_one_lent_price(rt: HostRuntime) -> Result<(), Fail> {
     let price = ClassPrice::new(TaxedPrice::new(75)?);
-    let mut first = Broker::new(&price);
-    let mut second = Broker::new(&price);
+    let mut first = Broker::new(Lent { price: &price });
+    let mut second = Broker::new(Lent { price: &price });
     runs_taxed_session(&rt, &mut first)?;
     assert_eq!(rt; second.free_frames(), 0);
     runs_taxed_session(&rt, &mut second)
+}
+
+#[test]
+fn session_under_a_price_that_is_one_of_two(rt: HostRuntime) -> Result<(), Fail> {
+    let price = ClassPrice::new(TaxedPrice::new(75)?);
+    let other: Either<SharePrice, &ClassPrice<TaxedPrice>> = Right(&price);
+    runs_taxed_session(&rt, &mut Broker::new(other))
 }

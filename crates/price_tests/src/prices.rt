@@ -1,5 +1,5 @@
 //! The examples.
-use either::{Either, Left};
+use either::{Either, Left, Right};
 use heap::Order;
 use price::{ClassPrice, Price, Ranked, SharePrice, TaxedPrice, ValidOffer, tariff_sheet};
 use rules::{Quote, Refusal};
@@ -61,6 +61,16 @@ fn prices_tell_offers_at_the_ends_of_the_ranges(rt: HostRuntime) -> Result<(), F
         &ClassPrice::new(TaxedPrice::new(99)?),
         &[(least, told(0, 1, 100)), (most, told(9, 1_000_000, 4_096))],
     );
+    Ok(())
+}
+
+#[test]
+fn price_of_two_tells_what_the_one_tells_that_it_is(rt: HostRuntime) -> Result<(), Fail> {
+    let offer = ValidOffer::new(100, 3, Some(2), 4)?;
+    let share: Either<SharePrice, TaxedPrice> = Left(SharePrice);
+    let taxed: Either<SharePrice, TaxedPrice> = Right(TaxedPrice::new(75)?);
+    assert_eq!(rt; share.quote(offer), told(0, 100, 4));
+    assert_eq!(rt; taxed.quote(offer), told(0, 2500, 250));
     Ok(())
 }
 
