@@ -15,11 +15,11 @@ impl Reader<'_> {
         ensures cases { MatchResult result (λ n. NextNumber self.old.line.now self.old.at n self.new.at) (NoNextNumber self.old.line.now self.old.at) }
     {
         self.next_word(Due::Separator)?;
-        match self.next_word(Due::Number)? {
-            Word::Number { value, .. } => Ok(value),
-            // Kept: words are one enum and the next one a method of the reader; which it is here is proved.
-            _ => unreachable(),
-        }
+        // Kept: words are one enum and the next one a method of the reader; that a number comes here is proved.
+        let Word::Number { value, .. } = self.next_word(Due::Number)? else {
+            unreachable!()
+        };
+        Ok(value)
     }
 
     /// What the line's letter says. The reader is at the start of the line.
@@ -28,11 +28,11 @@ impl Reader<'_> {
         ensures line { self.new.line ≡ self.old.line }
         ensures cases { MatchResult result (λ f. Behind self.old.line.now f.kind [] self.new.at × (f.count ≡ count f.kind)) (FirstFault self.old.line.now) }
     {
-        match self.next_word(Due::Letter)? {
-            Word::Letter { form, .. } => Ok(form),
-            // Kept: as above.
-            _ => unreachable(),
-        }
+        // Kept: words are one enum here too; that a letter comes first is proved.
+        let Word::Letter { form, .. } = self.next_word(Due::Letter)? else {
+            unreachable!()
+        };
+        Ok(form)
     }
 
     /// The numbers of a line, in the first places of five. The reader is right behind the line's letter.
