@@ -17,6 +17,7 @@ impl Due {
     pub fn missing(&self) -> FaultKind
         ensures { result ≡ kind_of self.now }
     {
+        // Kept: `missing` says what `due.into()` would not, that the fault is the want of the word that is due.
         match self {
             Due::Letter => FaultKind::Letter,
             Due::Separator => FaultKind::Space,
@@ -72,9 +73,8 @@ impl<'a> Word<'a> {
         ensures { result.now ≡ part self.now }
     {
         match self {
-            Word::Letter { text, .. } => text,
-            Word::Number { text, .. } => text,
-            Word::Separator { text, .. } => text,
+            Word::Letter { text, .. } | Word::Number { text, .. } | Word::Separator { text, .. } =>
+                text,
         }
     }
 }

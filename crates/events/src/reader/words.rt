@@ -52,10 +52,8 @@ impl<'a> Reader<'a> {
         ensures { Stands due.Letter self.now.line.now self.now.at result }
     {
         let at = self.at;
-        if at >= self.line.len() {
-            return None;
-        }
-        let form = form(self.line[at] as char)?;
+        let first = *self.line.get(at)?;
+        let form = form(first as char)?;
         Some(Word::Letter {
             text: &self.line[at..at + 1],
             column: at + 1,
