@@ -66,14 +66,10 @@ impl<'a> Reader<'a> {
         ensures { Stands due.Separator self.now.line.now self.now.at result }
     {
         let at = self.at;
-        if at < self.line.len() && self.line[at] == b' ' {
-            Some(Word::Separator {
-                text: &self.line[at..at + 1],
-                column: at + 1,
-            })
-        } else {
-            None
-        }
+        (self.line.get(at) == Some(&b' ')).then(|| Word::Separator {
+            text: &self.line[at..at + 1],
+            column: at + 1,
+        })
     }
 
     /// The number at the cursor, if one is there.
@@ -95,7 +91,7 @@ impl<'a> Reader<'a> {
     fn word(&self, due: Due) -> Option<Word<'a>>
         ensures { Stands due self.now.line.now self.now.at result }
     {
-        // Kept: the next word is one method and what is due a value; a closure would have to say what it looks for too.
+        // Kept: the next word is one method of the reader, which is told what is due: a form the project gives.
         match due {
             Due::Letter => self.letter(),
             Due::Separator => self.separator(),
