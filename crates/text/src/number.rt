@@ -6,14 +6,13 @@ ghost use Rattle.std.specs.Prelude.{◌≡◌, ℕ, ◌^◌, ◌<◌, decimal, M
 pub fn plain_number(bytes: &[u8]) -> Option<u32>
     ensures { MatchOption result ((n : ℕ) → n < 2 ^ 32 → bytes.now ≢ decimal n) (λ n. (n < 2 ^ 32) × (bytes.now ≡ decimal n)) }
 {
-    let len = bytes.len();
-    if len == 0 || len > 10 {
+    if let [] | [b'0', _, ..] = bytes {
         return None;
     }
-    if bytes[0] == b'0' && len > 1 {
+    if bytes.len() > 10 {
         return None;
     }
-    // Kept: `str::from_utf8(bytes).ok()?.parse().ok()` made the reading of lines a quarter slower.
+    // Kept: std's `parse` made the reading of lines a quarter slower (check_lines on 16 MiB of events).
     let mut number: u64 = 0;
     for b in bytes {
         if !b.is_ascii_digit() {
