@@ -12,9 +12,7 @@ fn check(rt: &HostRuntime) -> anyhow::Result<()> {
     let input = read_input(rt.alloc(), rt.stdin())?;
     let mut out = BufWriter::new(rt.alloc(), rt.stdout())?;
     let tally = report(&input, &mut out)?;
-    let lines = tally.lines;
-    let events = tally.events;
-    writeln!(out, "lines {lines} events {events}")?;
+    writeln!(out, "lines {} events {}", tally.lines, tally.events)?;
     out.flush()?;
     Ok(())
 }

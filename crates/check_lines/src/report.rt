@@ -23,6 +23,7 @@ pub fn report<W: Write>(input: &[u8], out: &mut W) -> io::Result<Tally>
         events: 0,
     };
     for line in Lines::new(input) {
+        // Kept: a line's number is the tally so far, which `enumerate` would count a second time.
         tally.lines += 1;
         match read(line) {
             Ok(_) => tally.events += 1,
