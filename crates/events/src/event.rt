@@ -13,6 +13,7 @@ use rules::{Admission, Estimate, Refusal};
 use text::{Line, Text};
 
 /// What an event line says. The numbers are as they came: whether the broker takes them is for the broker to say.
+// Kept: a `Call` can also deliver a slip, and an `EventKind` is what the letter says before its numbers are read.
 #[derive(Clone, Copy, PartialEq, Eq, Debug, Drop)]
 pub enum Event {
     /// `S unit frames`
@@ -37,7 +38,7 @@ fn event_of(k: EventKind, ns: [u32; 5]) -> Event
     ensures kind { kind result ≡ k }
     ensures numbers { numbers result ≡ take (count k) ns }
 {
-    // Kept: a vector of the numbers would have to be matched with a last arm that is never reached.
+    // Kept: the letter chooses count and event, so the numbers are read before the event gives them names.
     let [a, b, c, d, e] = ns;
     match k {
         EventKind::Start => Event::Start { unit: a, frames: b },
@@ -120,6 +121,7 @@ impl Line for Event {
 impl Event {
     /// Writes the event's line to the front of a lent buffer and answers its length. A buffer too short for it stays
     /// as it was. What is written reads as the same event again.
+    // Kept: it hides `Line::write` for its clause `again`, which the lines of faults and answers could not promise.
     pub fn write(&self, out: &mut [u8]) -> Result<usize, Refusal>
         ensures placed { Placed (written self.now) out.old result out.new }
         ensures again { (v : Result Event Refusal) → Verdict (written self.now) v → v ≡ Ok self.now }

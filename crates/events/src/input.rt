@@ -11,11 +11,11 @@ const LIMIT: usize = 16_777_216;
 /// The first bytes of an input: all of them, or as many as are read of one.
 ///
 /// Room for them is made at once, with a place more, which the last read finds empty; and a pipe, which hands out less at a time than is asked for, is read to its end.
-pub fn read_input<R: Read + Drop>(heap: Global, from: R) -> io::Result<Vec<u8>>
+pub fn read_input<R: Read + Drop>(alloc: Global, from: R) -> io::Result<Vec<u8>>
     ensures length { IfOk result (λ input. vec_len input ≤ 16_777_216) }
     ensures bytes { IfOk result (λ input. IfSome (R.remaining from) (λ bs. input.items ≡ take 16_777_216 bs)) }
 {
-    let mut input = Vec::with_capacity(heap, LIMIT + 1)?;
+    let mut input = Vec::with_capacity(alloc, LIMIT + 1)?;
     from.take(LIMIT as u64).read_to_end(&mut input)?;
     // No more came; but std promises so only of a reader whose bytes are known.
     input.truncate(LIMIT);

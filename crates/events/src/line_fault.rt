@@ -17,7 +17,6 @@ pub struct LineFault {
 impl Line for LineFault {
     ghost spelling = { told };
 
-    // Kept: with `Display` `write` could not promise what it does, since `write!` never promises `Ok`.
     fn line(&self) -> Text {
         let mut text = Text::new();
         text.bytes(b"line ");

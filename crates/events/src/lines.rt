@@ -7,11 +7,12 @@ ghost use Rattle.std.specs.Iterator.{at_most};
 use memchr::memchr;
 
 /// How many bytes of each line are read. They decide what it says.
-pub const WIDTH: usize = 80;
+const WIDTH: usize = 80;
 
 /// The lines of an input, cut by byte 10 alone, the first 80 bytes of each.
 ///
 /// Text after the last newline is a line unless it is empty.
+// Kept: `split_inclusive` has no memchr and keeps the newline; each line would still be cut to 80 bytes, by `NextLine`.
 #[derive(Drop)]
 pub struct Lines<'a> {
     rest: &'a [u8],

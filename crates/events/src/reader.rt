@@ -5,6 +5,7 @@ mod numbers;
 mod words;
 
 /// A line and a cursor in it, which never passes its end.
+// Kept: four functions promise that `line` stays; a cursor apart from it would have to be told its line each time.
 #[derive(Drop)]
 pub struct Reader<'a> {
     line: &'a [u8],

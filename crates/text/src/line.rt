@@ -9,6 +9,7 @@ use std::io;
 use std::io::Write;
 
 /// A value with a line of its own, of at most 128 bytes.
+// Kept: `Display` is not this trait, since `write!` never promises `Ok`, and `write` could not promise what it does.
 pub trait Line {
     /// The bytes of the line, without a newline.
     ghost spelling: { Self → List ℕ };

@@ -28,7 +28,7 @@ impl Reader<'_> {
         ensures line { self.new.line ≡ self.old.line }
         ensures cases { MatchResult result (λ f. Behind self.old.line.now f.kind [] self.new.at × (f.count ≡ count f.kind)) (FirstFault self.old.line.now) }
     {
-        // Kept: words are one enum here too; that a letter comes first is proved.
+        // Kept: words are one enum and the next one a method of the reader; that a letter comes here is proved.
         let Word::Letter { form, .. } = self.next_word(Due::Letter)? else {
             unreachable!()
         };
