@@ -91,9 +91,7 @@ mod tests {
             let n = event.write(&mut out)?;
             assert!(rt; n <= 60);
             assert_eq!(rt; &out[0..n], line);
-            for b in out.iter().skip(n) {
-                assert_eq!(rt; *b, b'#');
-            }
+            assert!(rt; out[n..].iter().all(|b| *b == b'#'));
         }
         Ok(())
     }
