@@ -8,11 +8,6 @@ mod tests {
     use std::test::Fail;
     use text::Line;
 
-    // The bytes of a literal, as a slice.
-    fn text(bytes: &'static [u8]) -> &'static [u8] {
-        bytes
-    }
-
     // Malformed lines, each with the kind and the column of its first fault.
     const FAULTS: [(&[u8], FaultKind, usize); 22] = [
         (b"", FaultKind::Letter, 1),
@@ -103,25 +98,25 @@ mod tests {
             Event::Start { unit: 7, frames: 3 }.write(&mut out),
             Err(Refusal::BufferTooShort)
         );
-        assert_eq!(rt; &out[0..4], text(b"####"));
+        assert_eq!(rt; &out[0..4], b"####".as_slice());
         assert_eq!(rt; Event::Ask { client: 12 }.write(&mut out), Ok(4));
-        assert_eq!(rt; &out[0..4], text(b"Q 12"));
+        assert_eq!(rt; &out[0..4], b"Q 12".as_slice());
     }
 
     #[test]
     fn input_read_whole(rt: HostRuntime) -> Result<(), Fail> {
-        let input = read_input(rt.alloc(), text(b"Q 1\nQ 2"))?;
-        assert_eq!(rt; input.as_slice(), text(b"Q 1\nQ 2"));
+        let input = read_input(rt.alloc(), b"Q 1\nQ 2".as_slice())?;
+        assert_eq!(rt; input.as_slice(), b"Q 1\nQ 2".as_slice());
         Ok(())
     }
 
     #[test]
     fn lines_of_an_input(rt: HostRuntime) {
         let mut lines = Lines::new(b"Q 1\n\nT 2\r\nL 3");
-        assert_eq!(rt; lines.next(), Some(text(b"Q 1")));
-        assert_eq!(rt; lines.next(), Some(text(b"")));
-        assert_eq!(rt; lines.next(), Some(text(b"T 2\r")));
-        assert_eq!(rt; lines.next(), Some(text(b"L 3")));
+        assert_eq!(rt; lines.next(), Some(b"Q 1".as_slice()));
+        assert_eq!(rt; lines.next(), Some(b"".as_slice()));
+        assert_eq!(rt; lines.next(), Some(b"T 2\r".as_slice()));
+        assert_eq!(rt; lines.next(), Some(b"L 3".as_slice()));
         assert_eq!(rt; lines.next(), None);
     }
 
@@ -147,14 +142,14 @@ mod tests {
         };
         let n = malformed.write(&mut out)?;
         assert!(rt; n <= 32);
-        assert_eq!(rt; &out[0..n], text(b"line 10 text 3 at 3"));
+        assert_eq!(rt; &out[0..n], b"line 10 text 3 at 3".as_slice());
         let outbid = LineFault {
             line: 9,
             refusal: Refusal::Outbid,
         };
         let m = outbid.write(&mut out)?;
         assert!(rt; m <= 32);
-        assert_eq!(rt; &out[0..m], text(b"line 9 refused 18"));
+        assert_eq!(rt; &out[0..m], b"line 9 refused 18".as_slice());
         Ok(())
     }
 }

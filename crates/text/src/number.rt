@@ -12,7 +12,7 @@ pub fn plain_number(bytes: &[u8]) -> Option<u32>
     if bytes.len() > 10 {
         return None;
     }
-    // Kept: std's `parse` made the reading of lines a quarter slower (check_lines on 16 MiB of events).
+    // Kept: std's `parse` made check_lines a quarter slower on 16 MiB; with `try_fold` it stayed open what None means.
     let mut number: u64 = 0;
     for b in bytes {
         if !b.is_ascii_digit() {

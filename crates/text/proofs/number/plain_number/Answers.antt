@@ -9,7 +9,7 @@ pub returns-in-empty : goal.returns-in-empty
 returns-in-empty c = none_writes _ (omega (arith, c.in-empty.len_below))
 
 pub returns-in-empty-2 : goal.returns-in-empty-2
-returns-in-empty-2 c = zero_writes _ c.in-empty.len_at_least (search (rules, arith))
+returns-in-empty-2 c = zero_writes _ (omega (arith, c.in-empty.len_at_least)) (search (rules, arith))
 
 pub returns-then-bytes-gt10 : goal.returns-then-bytes-gt10
 returns-then-bytes-gt10 c = long_writes _ c.if-bytes-gt10.true
