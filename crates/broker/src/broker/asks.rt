@@ -23,7 +23,7 @@ impl<P: Price> Broker<P> {
         let holding = self.pool.height(client);
         if !member.is_below(holding) {
             let bid = payers::bid(&self.price, client, member, holding + 1);
-            if !bid.ranks_above(&lowest.bid) {
+            if !bid.ranks_above(&lowest) {
                 return Err(Refusal::Outbid);
             }
         }

@@ -60,7 +60,6 @@ impl<P: Price> Broker<P> {
     pub fn lowest_payer(&self) -> Option<u32>
         ensures { LowestIs (meaning self.now) (view self.now) result }
     {
-        let payer = self.payers.lowest()?;
-        Some(payer.client)
+        self.payers.lowest().map(|bid| bid.client)
     }
 }
