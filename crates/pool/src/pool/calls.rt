@@ -67,7 +67,7 @@ impl Pool {
             maximum,
         } = asked;
         let place = place(client)?;
-        if shares < 1 || shares > 1_000_000 {
+        if !(1..=1_000_000).contains(&shares) {
             return Err(Refusal::SharesOutOfRange);
         }
         if class > 9 {

@@ -16,7 +16,7 @@ use rules::Refusal;
 pub(super) fn place(client: u32) -> Result<usize, Refusal>
     ensures { Replies (entry ClientOutOfRange (Outside 1 256 client) ∷ []) (λ i. suc i ≡ client) result }
 {
-    if client < 1 || client > 256 {
+    if !(1..=256).contains(&client) {
         return Err(Refusal::ClientOutOfRange);
     }
     Ok(client as usize - 1)
@@ -61,6 +61,7 @@ impl Pool {
     {
         let mut shares: u64 = 0;
         let mut minimums: u64 = 0;
+        // Kept: the project gives this form: the sum of shares is a `for` over the client table.
         for member in self.members.iter().flatten() {
             shares += member.shares as u64;
             minimums += member.minimum as u64;
