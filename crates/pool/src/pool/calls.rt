@@ -34,7 +34,7 @@ impl Pool {
     pub fn start(&mut self, unit: u32, frames: u32) -> Result<(), Refusal>
         ensures { Steps self.old (Start unit frames) (answered (λ _. Done) result) self.new }
     {
-        if frames < 1 || frames > 4_096 || unit < 1 || unit > 999 {
+        if !(1..=4_096).contains(&frames) || !(1..=999).contains(&unit) {
             return Err(Refusal::PoolOutOfRange);
         }
         self.ledger
