@@ -1,5 +1,5 @@
 -- What the listed bids tell of the broker that the rules speak of.
-use Rattle.std.proofs.Common.{◌≡◌, ℕ, ◌+◌, ◌<◌, ◌≤◌, true, false, ◌≢◌, ◌⊎◌, [], length, Some, None, Option, sym, refl, ◌∙◌, subst, inl, inr, arith}
+use Rattle.std.proofs.Common.{◌≡◌, ℕ, ◌+◌, ◌<◌, ◌≤◌, true, false, ◌≢◌, ◌⊎◌, [], length, Some, None, MatchOption, Option, sym, refl, ◌∙◌, subst, inl, inr, arith}
 use Rattle.std.proofs.lemmas.Bool.{not-true, both_ways}
 use Rattle.rules.specs.Offers.{Meaning, Lawful}
 use Rattle.rules.specs.Rank.{bid_at, above, Above}
@@ -7,6 +7,7 @@ use Rattle.rules.specs.Laws.{Made}
 use Rattle.rules.proofs.Ranked.{rank_is_one_line}
 use Rattle.laws.specs.Division.{terms, minimum_of, bid_of}
 use Rattle.laws.specs.Broker.{Broker, Client, new_broker, terms_of, stack_of, present, holding, Beyond, LowestPayer, MayTake, IsOutbid}
+use Rattle.laws.specs.Questions.{LowestIs}
 use Rattle.laws.proofs.Puts.{each_but, each_but_two}
 use Rattle.laws.proofs.One.{one_payer}
 use Rattle.heap.specs.Heaps.{Least}
@@ -35,6 +36,10 @@ module _ (m : Meaning) (v : Broker) where
 
     pub outbid_by_nobody : ((o : ℕ) → ks o ≡ None) → (c : ℕ) → v.free ≡ [] → IsOutbid m v c
     outbid_by_nobody none c e = (e, λ p t. nobody_pays none p t.0.beyond)
+
+    -- the lowest bid says whose it is
+    pub least_own : (k : Ranked) → (c : ℕ) × Least leads ks c k → Least leads ks k.client k
+    least_own k (c, least) = subst (λ (n : ℕ). Least leads ks n k) (sym (listed_bid c k least.has).1.client) least
 
     module _ (p : ℕ) (k : Ranked) (least : Least leads ks p k) where
       pub lowest_is : LowestPayer m v p
@@ -66,6 +71,12 @@ module _ (m : Meaning) (v : Broker) where
               both_ways (outranks j k) under
               (next_ranks c j u
               ∙ subst (λ (p : ℕ). Above m (bid_of (present v) c (holding v c + 1)) (bid_of (present v) p (holding v p))) (one_payer m v q p l lowest_is) g)
+
+    -- the client of the lowest bid, where there is one, is the lowest payer
+    pub lowest_told : (o : Option Ranked) (r : Option ℕ) → MatchOption o ((c : ℕ) → ks c ≡ None) (λ k. (c : ℕ) × Least leads ks c k) →
+        MatchOption o (r ≡ None) (λ k. r ≡ Some k.client) → LowestIs m v r
+    lowest_told (Some k) r found told = rw told (lowest_is k.client k (least_own k found))
+    lowest_told None r none told = rw told (nobody_pays none)
 
   -- who may take a frame does not take it from itself
   pub not_itself : Lawful m → (c p : ℕ) → ((k : ℕ) → 1 ≤ k → k ≤ 4_096 → Made (bid_of (present v) c k)) → holding v c + 1 ≤ 4_096 → MayTake m v c p → p ≢ c

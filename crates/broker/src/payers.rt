@@ -17,13 +17,6 @@ pub(crate) struct Payers {
     bids: IndexedHeap<Ranked, 257>,
 }
 
-/// One of them, with its bid.
-#[derive(Clone, Copy, Drop)]
-pub(crate) struct Payer {
-    pub(crate) client: u32,
-    pub(crate) bid: Ranked,
-}
-
 // The bid of a client at a count of frames.
 pub(crate) fn bid<P: Price>(price: &P, client: u32, member: Member, count: u32) -> Ranked
     requires { (1 ≤ count) × (count ≤ 4_096) }
@@ -69,14 +62,10 @@ impl Payers {
         }
     }
 
-    // The client with the lowest bid, if anybody has one.
-    pub(crate) fn lowest(&self) -> Option<Payer>
-        ensures { MatchOption result ((c : ℕ) → listed self.now c ≡ None) (λ p. Least leads (listed self.now) p.client p.bid) }
+    // The lowest bid, if there is any.
+    pub(crate) fn lowest(&self) -> Option<Ranked>
+        ensures { MatchOption result ((c : ℕ) → listed self.now c ≡ None) (λ k. (c : ℕ) × Least leads (listed self.now) c k) }
     {
-        let (client, bid) = self.bids.root()?;
-        Some(Payer {
-            client: client as u32,
-            bid: *bid,
-        })
+        self.bids.root().map(|(_, bid)| *bid)
     }
 }

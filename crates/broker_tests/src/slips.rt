@@ -10,11 +10,8 @@ pub(crate) fn ask_and_deliver<P: Price>(
 ) -> Result<SlipNumbers, Refusal> {
     let slip = broker.ask(client)?;
     let numbers = slip.numbers();
-    match broker.deliver(slip) {
-        Ok(()) => Ok(numbers),
-        // Kept: `unwrap` would have to let go of the slip in the error, which may not be let go.
-        Err(_) => unreachable(),
-    }
+    broker.deliver(slip).unwrap();
+    Ok(numbers)
 }
 
 /// Asks one broker for a frame, tries to deliver the slip to another, and delivers the slip that is handed back where
@@ -29,11 +26,8 @@ pub(crate) fn deliver_elsewhere_first<P: Price>(
         Ok(()) => Ok(None),
         Err(undelivered) => {
             let refusal = undelivered.refusal;
-            match broker.deliver(undelivered.into_slip()) {
-                Ok(()) => Ok(Some(refusal)),
-                // Kept: as above.
-                Err(_) => unreachable(),
-            }
+            broker.deliver(undelivered.into_slip()).unwrap();
+            Ok(Some(refusal))
         }
     }
 }

@@ -1,5 +1,6 @@
 //! The calls: the heap as a map from owners to keys.
-// Kept: the project's form, one lent slice of records with a count. `IndexedHeap` has both in one.
+// Kept: the project's form, one lent slice of records with a count, which the private functions below the calls take for
+// the same reason. `IndexedHeap` has both in one.
 ghost use Rattle.std.specs.Prelude.{◌≡◌, ℕ, ◌<◌, length, is_some, Some, None, MatchOption};
 ghost use Rattle.std.specs.Option.{option_map};
 ghost use Rattle.heap.specs.Heaps.{Heap, Least, Changed, keys};

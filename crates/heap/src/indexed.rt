@@ -7,6 +7,7 @@ use super::{Order, Record};
 
 /// A heap of the owners below N, in fixed memory: a map from owners to keys that answers an owner whose key no other
 /// precedes.
+// Kept: fixed memory: each of the N records needs a key from the start, and the count says how many places are in use.
 #[derive(Drop)]
 pub struct IndexedHeap<K: Order, const N: usize> {
     records: [Record<K>; N],

@@ -13,7 +13,8 @@ pub(crate) fn sift_up<K: Order>(records: &mut [Record<K>], count: usize, i: usiz
     ensures map { (o : ℕ) → keys records.new count o ≡ keys records.old count o }
 {
     let mut at = i;
-    // Kept: each turn halves the place, so no range has these places.
+    // Kept: each turn halves the place and may be the last, so no range has these places, and an iterator of them would
+    // have to lead the exchanges too.
     while at > 0 {
         let up = (at - 1) / 2;
         if leads_at(records, count, up, at) {
@@ -45,7 +46,8 @@ pub(crate) fn sift_down<K: Order>(records: &mut [Record<K>], count: usize, i: us
     ensures map { (o : ℕ) → keys records.new count o ≡ keys records.old count o }
 {
     let mut at = i;
-    // Kept: each turn doubles the place, to the left or to the right, so no range has these places.
+    // Kept: each turn goes on to the left or to the right below, as the keys say, or is the last, so no range has these
+    // places.
     while at < count / 2 {
         let below = first_below(records, count, at);
         if leads_at(records, count, at, below) {

@@ -16,7 +16,7 @@ later_lasts : (t : ℕ) (v : Option Estimate) → ((s : ℕ) → estimate_end v 
 later_lasts t (Some e) h = let later = h e.end refl in grind (arith, nat_tests)
 later_lasts t None h = refl
 
-later_stays : (t : ℕ) (o : Option Client) → ((s : ℕ) → client_end o ≡ Some s → t < s) → ends t o ≡ 0
+pub later_stays : (t : ℕ) (o : Option Client) → ((s : ℕ) → client_end o ≡ Some s → t < s) → ends t o ≡ 0
 later_stays t (Some x) h = later_lasts t x.estimate h
 later_stays t None h = refl
 

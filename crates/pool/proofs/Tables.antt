@@ -1,5 +1,5 @@
 -- The table of clients, with one place changed.
-use Rattle.std.proofs.Common.{◌≡◌, ℕ, suc, ◌-◌, ◌<◌, ◌≤◌, ◌≢◌, List, [], length, set, Some, None, Ok, Option, sym, refl, ap, ◌∙◌, subst, arith}
+use Rattle.std.proofs.Common.{◌≡◌, ℕ, suc, ◌<◌, ◌≤◌, ◌≢◌, List, [], length, set, Some, None, Ok, Option, sym, refl, ap, ◌∙◌, subst, arith}
 use mathlib.Core.Path.{fun_ext}
 use Rattle.rules.specs.Offers.{Meaning}
 use Rattle.laws.specs.ByNumber.{total, Numbered, put, by_number}
@@ -47,15 +47,14 @@ shares_among xs s c x i e =
     omega (arith, one, its)
 
 -- what is noted of a new client makes it the newcomer that the rules speak of
-pub admit_step : (m : Meaning) (b : Pool) (a : Admission) (x : Member) → ◌≡◌ {A = Option rules.Client} (client_of (Some x) []) (Some (newcomer a)) →
-    IsClear m (view b) (Admit a) → Step m (view b) (Admit a) (Ok Done) (seen_with b (set b.members (a.client - 1) (Some x)) b.ledger)
-admit_step m b a x new clear =
+pub admit_step : (m : Meaning) (b : Pool) (a : Admission) (i : ℕ) (x : Member) → suc i ≡ a.client → ◌≡◌ {A = Option rules.Client} (client_of (Some x) []) (Some (newcomer a)) →
+    IsClear m (view b) (Admit a) → Step m (view b) (Admit a) (Ok Done) (seen_with b (set b.members i (Some x)) b.ledger)
+admit_step m b a i x is new clear =
     let c = a.client in
     let s = stack_of b.ledger in
     let h = inside 1 256 c clear.0 in
-    let i : c ≡ suc (c - 1) = omega (arith, h) in
     let none : by_number b.members c ≡ None = not_there (by_number b.members c) (s c) clear.1.1.1.1.1.0 in
-    let empty : s c ≡ [] = subst (λ (d : ℕ). s d ≡ []) (sym i) (b.stray (c - 1) (subst (λ (d : ℕ). by_number b.members d ≡ None) i none)) in
+    let empty : s c ≡ [] = subst (λ (d : ℕ). s d ≡ []) is (b.stray i (subst (λ (d : ℕ). by_number b.members d ≡ None) (sym is) none)) in
     let with_it = ap (λ (fs : List ℕ). put (view b).clients c (client_of (Some x) fs)) empty ∙ ap (put (view b).clients c) new in
-    let after = set_clients b.members s c (c - 1) (Some x) i (omega (arith, h, b.places)) ∙ with_it in
+    let after = set_clients b.members s c i (Some x) (sym is) (omega (arith, is, h, b.places)) ∙ with_it in
     subst (λ (d : rules.Broker). Step m (view b) (Admit a) (Ok Done) d) (sym (same_parts b.unit b.ledger.frames b.tick b.asks b.passage refl refl after)) (admitted clear)

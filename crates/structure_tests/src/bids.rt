@@ -14,17 +14,15 @@ struct Bid {
 impl Order for Bid {
     ghost leads = { λ a b. (if nat_eq a.class b.class then nat_le b.number a.number else nat_lt a.class b.class) };
 
-    // Kept: an impl may name no lemma of proofs/, and one of specs/ would be found by the same search.
     ghost total = { Prim.search rules };
 
     ghost chain = { Prim.search rules };
 
     fn no_later(&self, other: &Bid) -> bool {
-        if self.class == other.class {
-            other.number <= self.number
-        } else {
-            self.class < other.class
-        }
+        self.class
+            .cmp(&other.class)
+            .then(other.number.cmp(&self.number))
+            .is_le()
     }
 }
 

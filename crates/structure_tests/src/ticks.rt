@@ -11,7 +11,6 @@ struct Tick(u32);
 impl Order for Tick {
     ghost leads = { λ a b. nat_le a.0 b.0 };
 
-    // Kept: an impl may name no lemma of proofs/, and one of specs/ would be found by the same search.
     ghost total = { Prim.search rules };
 
     ghost chain = { Prim.search rules };

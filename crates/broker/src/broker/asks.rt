@@ -12,6 +12,7 @@ use rules::{Refusal, SlipNumbers};
 impl<P: Price> Broker<P> {
     // Where the frame of a client's ask comes from: 0 where a frame is free, and else the lowest payer, if the client may
     // take a frame from it.
+    // Kept: 0 is the free stack, as the owners of the ledger and the former owner in a slip's plain numbers have it.
     fn source(&self, client: u32) -> Result<u32, Refusal>
         ensures { Sourced self.now client result }
     {
@@ -23,7 +24,7 @@ impl<P: Price> Broker<P> {
         let holding = self.pool.height(client);
         if !member.is_below(holding) {
             let bid = payers::bid(&self.price, client, member, holding + 1);
-            if !bid.ranks_above(&lowest.bid) {
+            if !bid.ranks_above(&lowest) {
                 return Err(Refusal::Outbid);
             }
         }

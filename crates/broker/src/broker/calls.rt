@@ -46,14 +46,11 @@ impl<P: Price> Broker<P> {
         ensures step { Stepped self.old (Deliver slip.numbers) (delivered result) self.new }
         ensures slip { IfErr result (λ u. u.slip ≡ slip) }
     {
-        match self.close(slip.numbers) {
-            Ok(()) => {
-                slip.spent = true;
-                Ok(())
-            }
-            // Kept: neither arm only hands on: a slip is spent, or goes back with its refusal.
-            Err(refusal) => Err(Undelivered { refusal, slip }),
+        if let Err(refusal) = self.close(slip.numbers) {
+            return Err(Undelivered { refusal, slip });
         }
+        slip.spent = true;
+        Ok(())
     }
 
     /// Admits a client, 1 to 256, under its terms: shares of 1 to 1,000,000, a class of 0 to 9, a minimum and a maximum

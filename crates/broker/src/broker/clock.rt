@@ -13,7 +13,8 @@ impl<P: Price> Broker<P> {
         ensures { Ended tick self.old result self.new }
     {
         let mut ended: u32 = 0;
-        // Kept: an iterator is no plainer, since each step changes both the pool and the list of bids.
+        // Kept: a `for` over `iter::from_fn` would be no plainer, since it does not say that it ends, and each step changes
+        // the list of bids besides the pool.
         while let Some(client) = self.pool.drop_ended(tick) {
             self.payers.relist(&self.price, &self.pool, client);
             ended += 1;

@@ -45,10 +45,10 @@ impl<P: Price> Broker<P> {
     pub fn price_at(&self, client: u32, count: u32) -> Result<Quote, Refusal>
         ensures { Replies (price_entries (view self.now) client count) (λ q. q ≡ price_at (meaning self.now) (view self.now) client count) result }
     {
-        if client < 1 || client > 256 {
+        if !(1..=256).contains(&client) {
             return Err(Refusal::ClientOutOfRange);
         }
-        if count < 1 || count > 4_096 {
+        if !(1..=4_096).contains(&count) {
             return Err(Refusal::CountOutOfRange);
         }
         let member = self.pool.member(client)?;
@@ -60,7 +60,6 @@ impl<P: Price> Broker<P> {
     pub fn lowest_payer(&self) -> Option<u32>
         ensures { LowestIs (meaning self.now) (view self.now) result }
     {
-        let payer = self.payers.lowest()?;
-        Some(payer.client)
+        self.payers.lowest().map(|bid| bid.client)
     }
 }

@@ -20,9 +20,9 @@ impl Ledger {
     /// Puts the frames 1 to `frames` into the free stack of a ledger that has none yet, 1 on top and the last at the
     /// bottom.
     pub fn start(&mut self, frames: u16) -> Result<(), NotStarted>
-        ensures { MatchResult result (λ _. Started self.old self.new frames) (λ _. (self.new ≡ self.old) × (frames ≤ 4096 → 0 < self.old.frames)) }
+        ensures { MatchResult result (λ _. Started self.old self.new frames) (λ _. (self.new ≡ self.old) × (frames ≤ 4_096 → 0 < self.old.frames)) }
     {
-        if frames > 4096 || self.frames > 0 {
+        if frames > 4_096 || self.frames > 0 {
             return Err(NotStarted);
         }
         self.links.fill(frames);

@@ -7,7 +7,7 @@ use super::{Links, Stack};
 
 // Links each frame from 1 on to the next.
 fn link_down(below: &mut [u16], frames: u16)
-    requires { (frames < length below.old) × (frames ≤ 4096) }
+    requires { (frames < length below.old) × (frames ≤ 4_096) }
     ensures { (f : ℕ) → 1 ≤ f → f ≤ frames → slice_index below.new f ≡ f + 1 }
 {
     // Kept: the frame is the index; `for (frame, under) in (1..=frames).zip(&mut below[1..])` is no plainer.
@@ -23,7 +23,7 @@ impl Links {
         ensures stacks { (o : ℕ) → stacks result o ≡ [] }
     {
         Links {
-            below: [0; 4097],
+            below: [0; 4_097],
             stacks: [Stack { top: 0, height: 0 }; 257],
         }
     }
@@ -44,7 +44,7 @@ impl Links {
 
     // Puts the first frames into the free stack, where no stack has any.
     pub(crate) fn fill(&mut self, frames: u16)
-        requires { (many self.old ≡ 0) × (frames ≤ 4096) }
+        requires { (many self.old ≡ 0) × (frames ≤ 4_096) }
         ensures many { many self.new ≡ frames }
         ensures filled { Filled (stacks self.new) frames }
     {

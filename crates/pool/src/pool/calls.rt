@@ -1,11 +1,12 @@
 //! A new pool, its start, deliveries and admissions.
-ghost use Rattle.std.specs.Prelude.{◌≡◌};
+ghost use Rattle.std.specs.Prelude.{◌≡◌, suc};
 ghost use Rattle.rules.specs.Refusals.{Replies};
 ghost use Rattle.laws.specs.Broker.{new_broker};
 ghost use Rattle.laws.specs.Calls.{Start, Admit, Deliver, Done, admit_entries, answered};
 ghost use Rattle.pool.specs.View.{view, Steps};
 
 use super::Pool;
+use super::questions::place;
 use crate::ends::End;
 use crate::member::Member;
 use heap::IndexedHeap;
@@ -33,7 +34,7 @@ impl Pool {
     pub fn start(&mut self, unit: u32, frames: u32) -> Result<(), Refusal>
         ensures { Steps self.old (Start unit frames) (answered (λ _. Done) result) self.new }
     {
-        if frames < 1 || frames > 4_096 || unit < 1 || unit > 999 {
+        if !(1..=4_096).contains(&frames) || !(1..=999).contains(&unit) {
             return Err(Refusal::PoolOutOfRange);
         }
         self.ledger
@@ -54,9 +55,9 @@ impl Pool {
         Ok(())
     }
 
-    // Whether an admission may be granted.
-    fn admissible(&self, asked: Admission) -> Result<(), Refusal>
-        ensures { Replies (admit_entries (view self.now) asked) (λ _. Unit {0}) result }
+    // The place in the table for an admission that may be granted.
+    fn admissible(&self, asked: Admission) -> Result<usize, Refusal>
+        ensures { Replies (admit_entries (view self.now) asked) (λ i. suc i ≡ asked.client) result }
     {
         let Admission {
             client,
@@ -65,10 +66,8 @@ impl Pool {
             minimum,
             maximum,
         } = asked;
-        if client < 1 || client > 256 {
-            return Err(Refusal::ClientOutOfRange);
-        }
-        if shares < 1 || shares > 1_000_000 {
+        let place = place(client)?;
+        if !(1..=1_000_000).contains(&shares) {
             return Err(Refusal::SharesOutOfRange);
         }
         if class > 9 {
@@ -80,7 +79,7 @@ impl Pool {
         if self.passage.is_some() {
             return Err(Refusal::PassageOpen);
         }
-        if self.is_admitted(client) {
+        if self.members[place].is_some() {
             return Err(Refusal::AlreadyAdmitted);
         }
         let frames = self.ledger.frames() as u32;
@@ -90,7 +89,7 @@ impl Pool {
         if self.totals().minimums + minimum as u64 > frames as u64 {
             return Err(Refusal::MinimumsAboveFrames);
         }
-        Ok(())
+        Ok(place)
     }
 
     /// Admits a client, 1 to 256, under its terms: shares of 1 to 1,000,000, a class of 0 to 9, a minimum and a maximum
@@ -98,8 +97,8 @@ impl Pool {
     pub fn admit(&mut self, asked: Admission) -> Result<(), Refusal>
         ensures { Steps self.old (Admit asked) (answered (λ _. Done) result) self.new }
     {
-        self.admissible(asked)?;
-        self.members[asked.client as usize - 1] = Some(Member {
+        let place = self.admissible(asked)?;
+        self.members[place] = Some(Member {
             shares: asked.shares,
             class: asked.class as u8,
             minimum: asked.minimum,

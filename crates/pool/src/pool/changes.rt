@@ -6,6 +6,7 @@ ghost use Rattle.laws.specs.Calls.{HandBack, Leave, SetEstimate, Done, Frame, Co
 ghost use Rattle.pool.specs.View.{view, Steps};
 
 use super::Pool;
+use super::questions::place;
 use crate::ends::End;
 use crate::member::Member;
 use rules::{Estimate, Refusal};
@@ -15,13 +16,11 @@ impl Pool {
     pub(crate) fn caller(&self, client: u32) -> Result<Member, Refusal>
         ensures { Replies (caller_entries (view self.now) client) (λ x. by_number self.now.members client ≡ Some x) result }
     {
-        if client < 1 || client > 256 {
-            return Err(Refusal::ClientOutOfRange);
-        }
+        let place = place(client)?;
         if self.passage.is_some() {
             return Err(Refusal::PassageOpen);
         }
-        self.member(client)
+        self.members[place].ok_or(Refusal::NotAdmitted)
     }
 
     /// Hands the top frame of a client's stack back to the free frames, and answers it. A client number outside 1 to 256

@@ -28,10 +28,7 @@ impl Pool {
     fn first_ended(&self, tick: u32) -> Option<(usize, Member)>
         ensures { MatchOption result ((c : ℕ) → ends tick ((view self.now).clients c) ≡ 0) (λ p. Numbered p.0 × (by_number self.now.members p.0 ≡ Some p.1) × (ended tick p.1.estimate ≡ 1)) }
     {
-        let (client, end) = self.ends.root()?;
-        if tick < end.tick {
-            return None;
-        }
+        let (client, _) = self.ends.root().filter(|(_, end)| end.tick <= tick)?;
         let member = self.members[client - 1]?;
         Some((client, member))
     }

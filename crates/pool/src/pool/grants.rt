@@ -37,6 +37,7 @@ impl Pool {
 
     /// Grants an admitted client the top frame of the free stack, told as 0, or of another client's stack: counts the
     /// ask and opens its passage.
+    // Kept: 0 is the free stack, as the owners of the ledger and the former owner in a slip's plain numbers have it.
     pub fn grant(&mut self, client: u32, from: u32) -> Option<SlipNumbers>
         requires { Absent (view self.old) client → ⊥ }
         ensures grants { Grants (view self.old) client from result (view self.new) }

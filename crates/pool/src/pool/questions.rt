@@ -1,6 +1,7 @@
 //! The questions, which change nothing and are answered also while a passage is open.
-ghost use Rattle.std.specs.Prelude.{◌≡◌, ◌*◌, ◌^◌, ◌≤◌, length, is_some, Some};
-ghost use Rattle.rules.specs.Refusals.{Replies};
+ghost use Rattle.std.specs.Prelude.{◌≡◌, suc, ◌*◌, ◌^◌, ◌≤◌, [], ◌∷◌, length, is_some, Some};
+ghost use Rattle.rules.specs.declared.refusal.Refusal.TheVariants.{ClientOutOfRange};
+ghost use Rattle.rules.specs.Refusals.{Replies, Outside, entry};
 ghost use Rattle.laws.specs.ByNumber.{total, Numbered, by_number};
 ghost use Rattle.laws.specs.Division.{minimum_of};
 ghost use Rattle.laws.specs.Broker.{holding as held, present, all_shares, share_of};
@@ -11,15 +12,22 @@ use super::Pool;
 use crate::member::{Member, Totals};
 use rules::Refusal;
 
+// The place of a client in the table. A client number outside 1 to 256 is refused.
+pub(super) fn place(client: u32) -> Result<usize, Refusal>
+    ensures { Replies (entry ClientOutOfRange (Outside 1 256 client) ∷ []) (λ i. suc i ≡ client) result }
+{
+    if !(1..=256).contains(&client) {
+        return Err(Refusal::ClientOutOfRange);
+    }
+    Ok(client as usize - 1)
+}
+
 impl Pool {
     /// What is noted of a client. A client number outside 1 to 256 is refused, and then a client that is not admitted.
     pub fn member(&self, client: u32) -> Result<Member, Refusal>
         ensures { Replies (client_entries (view self.now) client) (λ x. by_number self.now.members client ≡ Some x) result }
     {
-        if client < 1 || client > 256 {
-            return Err(Refusal::ClientOutOfRange);
-        }
-        self.members[client as usize - 1].ok_or(Refusal::NotAdmitted)
+        self.members[place(client)?].ok_or(Refusal::NotAdmitted)
     }
 
     // Whether a client with this number is admitted.
@@ -53,6 +61,7 @@ impl Pool {
     {
         let mut shares: u64 = 0;
         let mut minimums: u64 = 0;
+        // Kept: the project gives this form: the sum of shares is a `for` over the client table.
         for member in self.members.iter().flatten() {
             shares += member.shares as u64;
             minimums += member.minimum as u64;

@@ -1,11 +1,7 @@
-use Rattle.std.proofs.Common.{arith}
-use Rattle.heap.specs.Indexed.{keys_in}
-use Rattle.pool.proofs.Ticks.{least_earliest}
-use Rattle.pool.proofs.Drops.{nobody_ends_yet}
+use Rattle.std.proofs.Common.{rules}
+use Rattle.pool.proofs.Drops.{nobody_left}
 use Rattle.pool.proofs.pool.Pool.first_ended.Goals as goal
 
-pub returns-then-tick-end : goal.returns-then-tick-end
-returns-then-tick-end c =
-    let b = c.args.self.now in
-    let first = c.in_ok-client.ensures in
-    nobody_ends_yet b c.args.tick c.in_ok-client.client c.in_ok-client.end.now.tick (least_earliest (keys_in b.ends) _ _ first.1) (omega (arith, c.if-tick-end.true))
+pub returns-in_err-client : goal.returns-in_err-client
+returns-in_err-client c =
+    rw c.from_residual.ensures (nobody_left c.args.self.now c.args.tick c.root.result _ (λ x q read. search rules) c.root.ensures (c.in_err-client.ensures {u = tt}))

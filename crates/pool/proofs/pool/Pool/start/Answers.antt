@@ -5,15 +5,15 @@ use Rattle.pool.proofs.Views.{seen_with, refused_exit}
 use Rattle.pool.proofs.Starts.{start_step, at_ok, at_err}
 use Rattle.pool.proofs.pool.Pool.start.Goals as goal
 
-pub returns-then-frames-lt1 : goal.returns-then-frames-lt1
-returns-then-frames-lt1 c = λ m. (refused (search (inl, inr, arith)))
+pub returns-then-not-contains : goal.returns-then-not-contains
+returns-then-not-contains c = λ m. (refused (search (inl, inr, rules, arith)))
 
 pub returns-in_err-map_err : goal.returns-in_err-map_err
 returns-in_err-map_err c =
     let b = c.args.self.now in
     let e = at_err _ _ _ c.in_err-map_err.ensures.variant c.start.ensures in
     let told : c.in_err-map_err.field-0.0 ≡ AlreadyStarted = search rules in
-    let has = e.1.1 (omega arith) in
+    let has = e.1.1 (search (rules, arith)) in
     λ m. (refused_exit _ _ c.from_residual.result c.from_residual.ensures.1 (ap (seen_with b b.members) e.1.0) (rw told (search (inl, inr, rules, arith))))
 
 pub returns : goal.returns
