@@ -1,4 +1,5 @@
 -- Asks: the prices that are printed of a grant, and its delivery.
+use Rattle.std.specs.Result.{IsOk, IsOkAnd, MatchResult}
 use Rattle.std.proofs.Common.{◌≡◌, ℕ, zero, suc, ◌+◌, ◌≤◌, ◌≢◌, List, [], ◌∷◌, length, Some, Ok, Err, Option, Result, sym, refl, ap, ◌∙◌, subst, inl, inr, arith}
 use Rattle.rules.specs.Offers.{Meaning}
 use Rattle.rules.specs.Rank.{bid_at, told}
@@ -19,15 +20,17 @@ use Rattle.laws.proofs.Puts.{put_at, put_off}
 use Rattle.pool.specs.declared.pool.Pool.{Pool}
 use Rattle.pool.specs.View as pool
 use Rattle.broker.specs.declared.broker.Broker.{Broker}
-use Rattle.broker.specs.View.{meaning, view, Stepped, Opens}
+use Rattle.broker.specs.declared.slip.Undelivered.{Undelivered}
+use Rattle.broker.specs.View.{meaning, view, delivered, Stepped, Opens}
 use Rattle.price.specs.declared.telling.Price.{Ghosts}
 use Rattle.events.specs.declared.event.Event.TheVariants as event
 use Rattle.session.specs.declared.printed.Grant.{Grant}
+use Rattle.session.specs.declared.printed.Printed.{Printed}
 use Rattle.session.specs.declared.printed.Printed.TheVariants as line
 use Rattle.session.specs.Session.{Performed, taken_of, grant_of, granted}
 use Rattle.session.specs.Session as session
 use Rattle.session.specs.declared.printed.Taken.{Taken}
-use Rattle.session.specs.Asks.{HasPrice, Priced, Lost, lost_by, taken_from, grant_after}
+use Rattle.session.specs.Asks.{HasPrice, Priced, Lost, lost_by, taken_from, grant_after, GrantOf}
 use Rattle.session.proofs.Holding.{few_held, holding_told, price_told}
 
 -- the holding is told of every client that is there
@@ -85,11 +88,12 @@ module _ (m : Meaning) (b : rules.Broker) (few : (d : ℕ) → holding b d ≤ 4
       let t = taken p f fs y g i k (put_off (put b.clients p (Some (with_stack y fs))) c (Some (with_stack x (f ∷ x.stack))) p other ∙ put_at b.clients p (Some (with_stack y fs))) in
       record { asker = refl; some = given (put b.clients p (Some (with_stack y fs))) x f g most refl; less = t.0; over = t.1 }
 
--- the slip that opened the passage is not refused
-pub delivers : {P : Type 0} {o : Ghosts P} (g d : Broker P o) (s : SlipNumbers) (r : Refusal) → (view g).passage ≡ Some s → Stepped g (Deliver s) (Err r) d → ⊥
-delivers g d s r e t = not_refused (view d) t.step
+-- the slip that opened the passage is delivered
+pub delivers : {P : Type 0} {o : Ghosts P} (g d : Broker P o) (s : SlipNumbers) (r : Result (Unit {0}) Undelivered) → (view g).passage ≡ Some s → Stepped g (Deliver s) (delivered r) d → IsOk r
+delivers g d s (Ok x) e t = refl
+delivers g d s (Err u) e t = absurd (not_refused (view d) t.step)
   where
-    not_refused : (w : rules.Broker) → Step (meaning g) (view g) (Deliver s) (Err r) w → ⊥
+    not_refused : (w : rules.Broker) → Step (meaning g) (view g) (Deliver s) (Err u.refusal) w → ⊥
     not_refused w (Calls.refused (inl (h, _))) = h e
     not_refused w (Calls.refused (inr (_, h))) = h
 
@@ -110,7 +114,7 @@ module _ {P : Type 0} {ghosts : Ghosts P} (b g d : Broker P ghosts) (c : ℕ) (s
   abbrev paid : ℕ → Option Taken → Grant
   paid n k = record { client = s.client; frame = s.frame; paying = price_at m (view g) s.client n; taken = k }
 
-  pub grant_printed : (p : Grant) → p ≡ grant_after (meaning g) (view g) s → Performed b (event.Ask c) (Ok (line.Grant p)) d
+  grant_printed : (p : Grant) → p ≡ grant_after (meaning g) (view g) s → Performed b (event.Ask c) (Ok (line.Grant p)) d
   grant_printed p e =
       let none_more : holding (view g) s.client + 0 ≡ holding (view g) s.client = omega arith in
       let same : p ≡ grant_of m (view b) s (view g) = e ∙ (ap (λ (q : P). grant_after (ghosts.meaning q) (view g) s) a.price
@@ -120,5 +124,11 @@ module _ {P : Type 0} {ghosts : Ghosts P} (b g d : Broker P ghosts) (c : ℕ) (s
         price = t.price ∙ a.price;
       }
 
-  pub grant_unprinted : (r : Refusal) → (HasPrice (view g) s.client 0 → Lost (view g) s.former → ⊥) → Performed b (event.Ask c) (Err r) d
+  grant_unprinted : (r : Refusal) → (HasPrice (view g) s.client 0 → Lost (view g) s.former → ⊥) → Performed b (event.Ask c) (Err r) d
   grant_unprinted r f = absurd (f (subst (λ (n : ℕ). HasPrice (view g) n 0) (sym left_by.asker) left_by.some) left_by.less)
+
+  -- what is printed of the ask is its grant, or why it has none
+  pub ask_printed : (r : Result Grant Refusal) (q : Result Printed Refusal) → GrantOf g s r → MatchResult r (λ x. IsOkAnd q (λ p. p ≡ line.Grant x)) (λ e. q ≡ Err e) → Performed b (event.Ask c) q d
+  ask_printed (Ok x) (Ok p) told h = subst (λ (y : Printed). Performed b (event.Ask c) (Ok y) d) (sym h) (grant_printed x told)
+  ask_printed (Ok x) (Err e) told h = absurd h
+  ask_printed (Err e) q told h = subst (λ (y : Result Printed Refusal). Performed b (event.Ask c) y d) (sym h) (grant_unprinted e told)

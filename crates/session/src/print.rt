@@ -14,7 +14,7 @@ use text::Line;
 pub fn print_all<P: Price, W: Write>(run: &mut Run<P>, out: &mut W) -> io::Result<()>
     ensures { OnOk result (PrintsRun run.old (W.contents out.old) (W.contents out.new)) }
 {
-    // Kept: a `for` would ask more of callers, since a run is an iterator only where its price may be let go.
+    // Kept: a `for` would ask `P: Drop` of callers of `print_all`, which it did not: only then is a run an iterator.
     while let Some(value) = run.advance() {
         value.print(out)?;
     }

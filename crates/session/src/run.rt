@@ -11,6 +11,7 @@ mod next;
 
 /// What is printed next: the next line's, or the next client's in the end report, above the one that was last.
 // Kept: one iterator over the lines and one over the clients, chained, would both hold the session.
+// Kept: two stages, of which one carries a number: an `Option<u32>` would not say which is which.
 #[derive(Clone, Copy, Drop)]
 pub(crate) enum Stage {
     Reading,
@@ -23,9 +24,10 @@ pub(crate) enum Stage {
 pub struct Run<'a, P: Price> {
     session: Session<P>,
     lines: Lines<'a>,
+    // Kept: the run steps its lines itself; `Enumerate` would count them in usize from 0, and a line's number is a u64.
     number: u64,
     stage: Stage,
-    // Kept: an iterator owes a drop, and that of a run is proved only where the run's own type names the broker's.
+    // Kept: without it a run's drop fails: "it was not told which modules hold the type `broker::broker::Broker`".
     broker: PhantomData<Broker<P>>,
     ghost room: { number + length lines.rest.now < 2 ^ 64 },
 }

@@ -20,14 +20,12 @@ const LARGEST: Quote = Quote {
 };
 
 // Whether a value is printed as this line, and all behind the line stays as it was.
-fn prints(rt: &impl Abort, value: Printed, line: &[u8]) -> Result<(), Fail> {
+pub(crate) fn prints(rt: &impl Abort, value: Printed, line: &[u8]) -> Result<(), Fail> {
     let mut out = [b'#'; 128];
     let n = value.write(&mut out)?;
     assert!(rt; n <= 128);
     assert_eq!(rt; &out[0..n], line);
-    for b in out.iter().skip(n) {
-        assert_eq!(rt; *b, b'#');
-    }
+    assert!(rt; out[n..].iter().all(|b| *b == b'#'));
     Ok(())
 }
 
@@ -149,8 +147,6 @@ fn short_buffer_stays(rt: HostRuntime) {
         Printed::Estimate { client: 12 }.write(&mut out),
         Err(Refusal::BufferTooShort)
     );
-    for b in out {
-        assert_eq!(rt; b, b'#');
-    }
+    assert!(rt; out.iter().all(|b| *b == b'#'));
     assert_eq!(rt; Printed::Estimate { client: 1 }.write(&mut out), Ok(10));
 }

@@ -1,26 +1,14 @@
 //! Runs of whole inputs.
+use crate::printed::prints;
 use price::{ClassPrice, Price, SharePrice, TaxedPrice};
-use session::{Printed, Run, Session, serve};
+use session::{Run, Session, serve};
 use std::process::Abort;
 use std::test::Fail;
-use text::Line;
-
-// Whether a value is printed as this line.
-fn prints(rt: &impl Abort, value: Printed, line: &[u8]) -> Result<(), Fail> {
-    let mut out = [0; 128];
-    let n = value.write(&mut out)?;
-    assert!(rt; n <= 128);
-    assert_eq!(rt; &out[0..n], line);
-    Ok(())
-}
 
 // Whether a run prints these lines, and then nothing more.
 fn runs<P: Price + Drop>(rt: &impl Abort, run: &mut Run<P>, lines: &[&[u8]]) -> Result<(), Fail> {
     for line in lines {
-        match run.next() {
-            Some(value) => prints(rt, value, *line)?,
-            None => assert!(rt; false),
-        }
+        prints(rt, run.next().expect(rt, "the run ends too early"), *line)?;
     }
     assert!(rt; run.next().is_none());
     assert!(rt; run.next().is_none());

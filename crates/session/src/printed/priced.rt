@@ -23,12 +23,9 @@ pub fn add_grant(text: &mut Text, grant: Grant)
     ensures text { spelt text.new ≡ cut (spelt text.old ++ grant_line grant grant.taken) }
     ensures short { length (grant_line grant grant.taken) ≤ 128 }
 {
-    match grant.taken {
-        None => add_granted(text, grant, 0),
-        Some(taken) => {
-            add_granted(text, grant, taken.from);
-            add_quote(text, b" over ", taken.over);
-        }
+    add_granted(text, grant, grant.taken.map_or(0, |taken| taken.from));
+    if let Some(taken) = grant.taken {
+        add_quote(text, b" over ", taken.over);
     }
 }
 
@@ -46,14 +43,9 @@ pub fn add_client(text: &mut Text, client: u32, held: Option<Held>)
     ensures text { spelt text.new ≡ cut (spelt text.old ++ client_line client held) }
     ensures short { length (client_line client held) ≤ 128 }
 {
+    add_holding(text, client, held.map_or(0, |held| held.frames));
     match held {
-        None => {
-            add_holding(text, client, 0);
-            text.bytes(b" price -");
-        }
-        Some(held) => {
-            add_holding(text, client, held.frames);
-            add_quote(text, b" price ", held.price);
-        }
+        None => text.bytes(b" price -"),
+        Some(held) => add_quote(text, b" price ", held.price),
     }
 }

@@ -57,10 +57,7 @@ impl<P: Price> Session<P> {
     {
         let slip = self.broker.ask(client)?;
         let grant = self.grant(slip.numbers());
-        match self.broker.deliver(slip) {
-            Ok(()) => Ok(Printed::Grant(grant?)),
-            // Kept: `unwrap` would have to let go of the slip in the error, which may not be let go.
-            Err(_) => unreachable(),
-        }
+        self.broker.deliver(slip).unwrap();
+        grant.map(Printed::Grant)
     }
 }
