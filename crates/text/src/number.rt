@@ -6,10 +6,12 @@ ghost use Rattle.std.specs.Prelude.{◌≡◌, ℕ, ◌^◌, ◌<◌, decimal, M
 pub fn plain_number(bytes: &[u8]) -> Option<u32>
     ensures { MatchOption result ((n : ℕ) → n < 2 ^ 32 → bytes.now ≢ decimal n) (λ n. (n < 2 ^ 32) × (bytes.now ≡ decimal n)) }
 {
-    if let [] | [b'0', _, ..] = bytes {
+    // Kept: a slice pattern says no more of an empty text and a leading zero, and the length is tested beside it.
+    let len = bytes.len();
+    if len == 0 || len > 10 {
         return None;
     }
-    if bytes.len() > 10 {
+    if bytes[0] == b'0' && len > 1 {
         return None;
     }
     // Kept: std's `parse` made check_lines a quarter slower on 16 MiB; with `try_fold` it stayed open what None means.
