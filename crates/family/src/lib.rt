@@ -5,4 +5,4 @@ mod orders;
 mod rehearsal;
 
 pub use orders::Order;
-pub use rehearsal::rehearse;
+pub use rehearsal::{Told, rehearse};

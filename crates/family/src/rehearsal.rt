@@ -6,8 +6,11 @@ use broker::Broker;
 use price::Price;
 use rules::{Answer, Refusal};
 
+/// What a broker answered to an order, or none where it is not there.
+pub type Told = Option<Result<Answer, Refusal>>;
+
 // Performs an order on its broker, if there is one.
-fn obey<P: Price>(brokers: &mut [Broker<P>], order: Order) -> Option<Result<Answer, Refusal>>
+fn obey<P: Price>(brokers: &mut [Broker<P>], order: Order) -> Told
     ensures { Obeyed brokers.old order result brokers.new }
 {
     // Kept: `get_mut` says nothing of what the brokers are left as, so the broker is called by its place.
@@ -23,7 +26,7 @@ fn obey<P: Price>(brokers: &mut [Broker<P>], order: Order) -> Option<Result<Answ
 pub fn rehearse<P: Price>(
     brokers: &mut [Broker<P>],
     orders: &[Order],
-    answers: &mut [Option<Result<Answer, Refusal>>],
+    answers: &mut [Told],
 ) -> Result<(), Refusal>
     ensures { Rehearsed brokers.old orders.now answers.old result brokers.new answers.new }
 {

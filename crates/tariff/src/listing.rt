@@ -9,10 +9,10 @@ use price::tariff_sheet;
 use std::alloc::Global;
 
 /// A line for each place of a sheet: a count of frames, a space, and the bottom there.
-fn lines(heap: Global, sheet: &[u32]) -> Result<String, Fault>
+fn lines(alloc: Global, sheet: &[u32]) -> Result<String, Fault>
     ensures { MatchResult result (λ text. string_bytes text ≡ rows 1 sheet.now) (λ f. f ≡ fault.Memory) }
 {
-    let mut text = String::new(heap);
+    let mut text = String::new(alloc);
     for (i, bottom) in sheet.iter().enumerate() {
         writeln!(text, "{} {bottom}", i + 1).map_err(|_| Fault::Memory)?;
     }
@@ -20,21 +20,21 @@ fn lines(heap: Global, sheet: &[u32]) -> Result<String, Fault>
 }
 
 /// The text of the sheet that is asked for, made in a lent sheet, or why there is none.
-fn sheet_text(heap: Global, request: Request, sheet: &mut [u32]) -> Result<String, Fault>
+fn sheet_text(alloc: Global, request: Request, sheet: &mut [u32]) -> Result<String, Fault>
     ensures { Prints request (length sheet.old) result }
 {
     tariff_sheet(request.rate, request.active, sheet)?;
-    lines(heap, sheet)
+    lines(alloc, sheet)
 }
 
 /// The text that the program prints for its arguments, or why it prints none.
-pub fn listing(heap: Global, words: &[String]) -> Result<String, Fault>
+pub fn listing(alloc: Global, words: &[String]) -> Result<String, Fault>
     ensures { Lists (map string_bytes words.now) result }
 {
     let request = Request::read(words)?;
     // a longer sheet is cut to 4,097 places, which are refused alike
     let places = request.length.min(4_097) as usize;
-    // Kept: a `Vec` could fail for want of memory, where the sheet is refused now.
+    // Kept: a `Vec` is made before the sheet is refused, so a refusal could be told as want of memory.
     let mut sheet = [0; 4_097];
-    sheet_text(heap, request, &mut sheet[..places])
+    sheet_text(alloc, request, &mut sheet[..places])
 }

@@ -11,9 +11,9 @@ use std::env;
 use std::process::ExitCode;
 
 fn run(rt: &HostRuntime) -> anyhow::Result<()> {
-    let heap = rt.alloc();
-    let words: Vec<String> = env::args(rt)?.skip(1).collect(heap)?;
-    rt.print(listing(heap, &words)?)?;
+    let alloc = rt.alloc();
+    let words: Vec<String> = env::args(rt)?.skip(1).collect(alloc)?;
+    rt.print(listing(alloc, &words)?)?;
     Ok(())
 }
 

@@ -22,6 +22,7 @@ fn number(word: &str) -> Option<u32>
 }
 
 /// The active count that a word says, or none where it is `-`.
+// Kept: `ReadsEstimate` in specs/ defines what is read as the count or its absence, or neither, before any fault is named.
 fn estimate(word: &str) -> Option<Option<u32>>
     ensures { ReadsEstimate word.now result }
 {

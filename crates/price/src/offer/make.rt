@@ -9,7 +9,7 @@ use rules::{Offer, Refusal};
 impl ValidOffer {
     /// The offer of a client with these shares, this class and this active count or none, at a count of frames. Shares
     /// outside 1 to 1,000,000, a class above 9 and a count outside 1 to 4,096 are refused, in this order.
-    // Kept: four numbers, and no `TryFrom<Offer>`: an offer's class has 8 bits, the input's 32, and 256 is refused, not cut.
+    // Kept: no `TryFrom<Offer>`: the promise is over the 32-bit numbers a planner sends, and an offer's class has 8 bits.
     pub fn new(
         shares: u32,
         class: u32,
