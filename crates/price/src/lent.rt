@@ -14,7 +14,7 @@ impl<P: Price> Price for &P {
     }
 }
 
-/// So does a lent price of any type, so brokers under different prices can stand in one list.
+/// So does a lent price of any type, so prices of different types can stand in one list.
 // Kept: two impls: a type parameter has a size, and `dyn Price` has none.
 impl Price for &dyn Price {
     ghost meaning = { λ p. (Price-dyn p.now).meaning p.now.1 };
