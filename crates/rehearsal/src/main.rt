@@ -7,6 +7,7 @@ mod show;
 mod week;
 
 use broker::Broker;
+use either::{Left, Right};
 use play::{play_all, play_passage, settle};
 use price::{ClassPrice, Price, SharePrice, TaxedPrice};
 use rules::Call;
@@ -40,10 +41,11 @@ fn play_day<P: Price, W: Write>(
 fn main(rt: HostRuntime) -> anyhow::Result<()> {
     let taxed = TaxedPrice::new(75).unwrap();
     let classed = ClassPrice::new(taxed);
+    // Kept: of a `Broker<&dyn Price>` the check says that its bound is met by an impl that is not the only match.
     let mut brokers = [
-        Broker::new(&SharePrice as &dyn Price),
-        Broker::new(&taxed),
-        Broker::new(&classed),
+        Broker::new(Left(SharePrice)),
+        Broker::new(Right(Left(taxed))),
+        Broker::new(Right(Right(classed))),
     ];
     let mut out = BufWriter::new(rt.alloc(), rt.stdout())?;
     writeln!(
