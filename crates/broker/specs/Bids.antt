@@ -5,8 +5,8 @@
 -- Listed     so it is for every number
 -- Relisted   one client was listed anew, and no other
 use Rattle.std.specs.Prelude.{◌≡◌, ℕ, ◌≢◌, Some, None, Option}
-use Rattle.std.specs.Coded.{Π_prop}
-use Rattle.std.proofs.Props.{props}
+use Rattle.std.specs.Coded.{Π_prop, ×_prop, le_prop}
+use mathlib.Core.HLevel.{⊥_prop}
 use Rattle.rules.specs.Offers.{Meaning}
 use Rattle.laws.specs.Division.{bid_of}
 use Rattle.laws.specs.Broker as rules
@@ -14,6 +14,7 @@ use Rattle.laws.specs.Broker.{present, holding, Beyond}
 use Rattle.heap.specs.Indexed.{keys_in}
 use Rattle.price.specs.declared.key.Ranked.{Ranked}
 use Rattle.price.specs.Keys.{KeyOf}
+use Rattle.price.proofs.Ranks.{Keyed-prop}
 use Rattle.broker.specs.declared.payers.Payers.{Payers}
 
 abbrev pub listed : Payers → ℕ → Option Ranked
@@ -32,8 +33,8 @@ pub record Relisted (m : Meaning) (v : rules.Broker) (c : ℕ) (before after : P
 
 -- What is listed is so in one way at most, so that a broker can keep it.
 Lists-prop : (m : Meaning) (v : rules.Broker) (c : ℕ) (o : Option Ranked) → IsProp (Lists m v c o)
-Lists-prop m v c None = hlevel props
-Lists-prop m v c (Some k) = hlevel props
+Lists-prop m v c None = Π_prop (λ _. ⊥_prop)
+Lists-prop m v c (Some k) = ×_prop le_prop (Keyed-prop m _ _ _ k)
 
 pub Listed-prop : (m : Meaning) (v : rules.Broker) (ks : ℕ → Option Ranked) → IsProp (Listed m v ks)
 Listed-prop m v ks = Π_prop (λ c. Lists-prop m v c (ks c))

@@ -37,7 +37,7 @@ impl<P: Price> Broker<P> {
         ensures opens { IfOk result (λ s. Opens client s self.new) }
     {
         let from = self.source(client)?;
-        let slip = self.pool.grant(client, from).ok_or(Refusal::Outbid)?;
+        let slip = self.pool.grant(client, from).unwrap();
         self.payers.relist(&self.price, &self.pool, client);
         self.payers.relist(&self.price, &self.pool, slip.former);
         Ok(slip)

@@ -43,6 +43,7 @@ impl Pool {
     {
         self.caller(client)?;
         let frames = self.ledger.release(client as usize);
+        // Kept: `place` would test again what `caller` has tested; `estimate` and `is_admitted` have the same premise.
         self.members[client as usize - 1] = None;
         self.ends.take(client as usize);
         Ok(frames as u32)
@@ -69,6 +70,7 @@ impl Pool {
         ensures { Steps self.old (SetEstimate client estimate) (answered (λ _. Done) result) self.new }
     {
         let mut member = self.estimable(client, estimate)?;
+        // Kept: `..member` is refused where a struct has ghost fields (unsupported-ghost-field-base), so a copy is changed.
         member.estimate = Some(estimate);
         self.members[client as usize - 1] = Some(member);
         self.ends.put(client as usize, End { tick: estimate.end });

@@ -38,6 +38,7 @@ impl Pool {
         ensures { Drops tick (view self.old) result (view self.new) }
     {
         let (client, mut member) = self.first_ended(tick)?;
+        // Kept: `..member` is refused where a struct has ghost fields (unsupported-ghost-field-base), so a copy is changed.
         member.estimate = None;
         self.members[client - 1] = Some(member);
         self.ends.take(client);

@@ -1,14 +1,13 @@
 use Rattle.std.proofs.Common.{refl}
-use Rattle.std.proofs.lemmas.Result.{err_from_is_err_and}
 use Rattle.laws.specs.Calls.{refused}
-use Rattle.broker.proofs.Steps.{stepped}
+use Rattle.broker.proofs.Steps.{stepped_exit}
 use Rattle.broker.proofs.Clock.{clock_stepped, ticked_listed}
 use Rattle.broker.proofs.broker.Broker.clock.Goals as goal
 
 pub returns-in_err-clockable : goal.returns-in_err-clockable
 returns-in_err-clockable g c =
-    let p = err_from_is_err_and c.from_residual.result c.from_residual.ensures.1 in
-    rw (p.1, p.2) (stepped c.args.self.now c.args.self.now (refused c.in_err-clockable.ensures) refl)
+    let b = c.args.self.now in
+    stepped_exit b b _ _ c.from_residual.result c.from_residual.ensures.1 (refused c.in_err-clockable.ensures) refl
 
 pub invariant_of-self : goal.invariant_of-self
 invariant_of-self g c = record { kept = ticked_listed c.end_estimates-ended.new.self c.args.tick c.set_tick.ensures }

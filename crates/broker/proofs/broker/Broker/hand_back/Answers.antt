@@ -1,8 +1,7 @@
 use Rattle.std.proofs.Common.{refl}
-use Rattle.std.proofs.lemmas.Result.{err_from_is_err_and}
 use Rattle.broker.specs.View.{meaning}
 use Rattle.broker.proofs.Others.{refused_listed, spared_but}
-use Rattle.broker.proofs.Steps.{stepped}
+use Rattle.broker.proofs.Steps.{stepped, stepped_exit}
 use Rattle.broker.proofs.broker.Broker.hand_back.Goals as goal
 
 pub invariant_of-self : goal.invariant_of-self
@@ -11,8 +10,7 @@ invariant_of-self g c = let b = c.args.self.now in record { kept = refused_liste
 pub returns-in_err-frame : goal.returns-in_err-frame
 returns-in_err-frame g c =
     let b = c.args.self.now in
-    let p = err_from_is_err_and c.from_residual.result c.from_residual.ensures.1 in
-    rw (p.1, p.2) (stepped b _ (c.in_err-frame.ensures (meaning b)) refl)
+    stepped_exit b _ _ _ c.from_residual.result c.from_residual.ensures.1 (c.in_err-frame.ensures (meaning b)) refl
 
 pub invariant_of-self-2 : goal.invariant_of-self-2
 invariant_of-self-2 g c =
