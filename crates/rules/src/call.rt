@@ -1,4 +1,7 @@
 //! The eight calls on a broker, as plain values, and what they are answered.
+ghost use Rattle.std.specs.Prelude.{◌≡◌};
+ghost use Rattle.rules.specs.Answers.{slip_of};
+
 /// How many frames a client says it uses, and the tick at which that ends.
 #[derive(Clone, Copy, PartialEq, Eq, Debug, Drop)]
 pub struct Estimate {
@@ -60,4 +63,16 @@ pub enum Answer {
     Frame(u32),
     /// How many frames a client left, or how many estimates the clock ended.
     Count(u32),
+}
+
+impl Answer {
+    /// The slip of an ask that is granted; no other answer has one.
+    pub fn slip(&self) -> Option<SlipNumbers>
+        ensures { result ≡ slip_of self.now }
+    {
+        match *self {
+            Answer::Granted(slip) => Some(slip),
+            _ => None,
+        }
+    }
 }
