@@ -17,7 +17,7 @@ pub(crate) struct Payers {
     bids: IndexedHeap<Ranked, 257>,
 }
 
-// The bid of a client at a count of frames.
+/// The bid of a client at a count of frames.
 pub(crate) fn bid<P: Price>(price: &P, client: u32, member: Member, count: u32) -> Ranked
     requires { (1 ≤ count) × (count ≤ 4_096) }
     ensures { Keyed (P.Price.meaning price.now) client member.minimum (offer_at member count) result }
@@ -27,7 +27,7 @@ pub(crate) fn bid<P: Price>(price: &P, client: u32, member: Member, count: u32) 
 }
 
 impl Payers {
-    // Nobody yet.
+    /// Nobody yet.
     pub(crate) fn new() -> Payers
         ensures { (c : ℕ) → listed result c ≡ None }
     {
@@ -46,8 +46,8 @@ impl Payers {
         }
     }
 
-    // Lists a client of a pool anew: with its bid at its holding, where it holds more than its minimum, and else not at
-    // all.
+    /// Lists a client of a pool anew: with its bid at its holding, where it holds more than its minimum, and else not at
+    /// all.
     pub(crate) fn relist<P: Price>(&mut self, price: &P, pool: &Pool, client: u32)
         ensures { Relisted (P.Price.meaning price.now) (view pool.now) client self.old self.new }
     {
@@ -62,7 +62,7 @@ impl Payers {
         }
     }
 
-    // The lowest bid, if there is any.
+    /// The lowest bid, if there is any.
     pub(crate) fn lowest(&self) -> Option<Ranked>
         ensures { MatchOption result ((c : ℕ) → listed self.now c ≡ None) (λ k. (c : ℕ) × Least leads (listed self.now) c k) }
     {

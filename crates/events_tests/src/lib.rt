@@ -8,7 +8,7 @@ mod tests {
     use std::test::Fail;
     use text::Line;
 
-    // Malformed lines, each with the kind and the column of its first fault.
+    /// Malformed lines, each with the kind and the column of its first fault.
     const FAULTS: [(&[u8], FaultKind, usize); 22] = [
         (b"", FaultKind::Letter, 1),
         (b"q 3", FaultKind::Letter, 1),
@@ -41,7 +41,7 @@ mod tests {
         }
     }
 
-    // One event of each kind, with its line.
+    /// One event of each kind, with its line.
     const EVENTS: [(Event, &[u8]); 9] = [
         (Event::Start { unit: 7, frames: 3 }, b"S 7 3"),
         (

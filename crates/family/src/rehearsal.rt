@@ -9,7 +9,7 @@ use rules::{Answer, Refusal};
 /// What a broker answered to an order, or none where it is not there.
 pub type Told = Option<Result<Answer, Refusal>>;
 
-// Performs an order on its broker, if there is one.
+/// Performs an order on its broker, if there is one.
 fn obey<P: Price>(brokers: &mut [Broker<P>], order: Order) -> Told
     ensures { Obeyed brokers.old order result brokers.new }
 {

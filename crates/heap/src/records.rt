@@ -18,7 +18,7 @@ pub struct Record<K> {
     pub place: usize,
 }
 
-// The owner at place i.
+/// The owner at place i.
 pub(crate) fn owner_at<K>(records: &[Record<K>], i: usize) -> usize
     requires { i < length records.now }
     ensures { result ≡ owner_at records.now i }
@@ -26,7 +26,7 @@ pub(crate) fn owner_at<K>(records: &[Record<K>], i: usize) -> usize
     records[i].owner
 }
 
-// The place that is noted for an owner.
+/// The place that is noted for an owner.
 pub(crate) fn place_of<K>(records: &[Record<K>], owner: usize) -> usize
     requires { owner < length records.now }
     ensures { result ≡ place_of records.now owner }
@@ -34,7 +34,7 @@ pub(crate) fn place_of<K>(records: &[Record<K>], owner: usize) -> usize
     records[owner].place
 }
 
-// The key at place i.
+/// The key at place i.
 pub(crate) fn key_at<K>(records: &[Record<K>], count: usize, i: usize) -> &K
     requires { Placed records.now count × (i < count) }
     ensures { key_at records.now i ≡ Some result.now }
@@ -43,7 +43,7 @@ pub(crate) fn key_at<K>(records: &[Record<K>], count: usize, i: usize) -> &K
     &records[owner].key
 }
 
-// Whether the key at place i comes no later than the one at place j.
+/// Whether the key at place i comes no later than the one at place j.
 pub(crate) fn leads_at<K: Order>(records: &[Record<K>], count: usize, i: usize, j: usize) -> bool
     requires { Placed records.now count × (i < count) × (j < count) }
     ensures { result ≡ none_first K.Order.leads (key_at records.now i) (key_at records.now j) }
@@ -51,7 +51,7 @@ pub(crate) fn leads_at<K: Order>(records: &[Record<K>], count: usize, i: usize, 
     key_at(records, count, i).no_later(key_at(records, count, j))
 }
 
-// Gives an owner another key.
+/// Gives an owner another key.
 pub(crate) fn rekey<K: Drop>(records: &mut [Record<K>], owner: usize, key: K)
     requires { owner < length records.old }
     ensures { Rekeyed records.old records.new owner key }
@@ -59,7 +59,7 @@ pub(crate) fn rekey<K: Drop>(records: &mut [Record<K>], owner: usize, key: K)
     records[owner].key = key;
 }
 
-// Puts an owner at a place.
+/// Puts an owner at a place.
 pub(crate) fn seat<K>(records: &mut [Record<K>], i: usize, owner: usize)
     requires { (i < length records.old) × (owner < length records.old) }
     ensures { Seated records.old records.new i owner }
@@ -68,7 +68,7 @@ pub(crate) fn seat<K>(records: &mut [Record<K>], i: usize, owner: usize)
     records[owner].place = i;
 }
 
-// Lets the owners at two places change places.
+/// Lets the owners at two places change places.
 pub(crate) fn exchange<K>(records: &mut [Record<K>], i: usize, j: usize)
     requires { (i < length records.old) × (j < length records.old) × (owner_at records.old i < length records.old) × (owner_at records.old j < length records.old) × (i ≢ j) }
     ensures { Exchanged records.old records.new i j }

@@ -6,7 +6,7 @@ ghost use Rattle.heap.specs.Steps.{Gap, Rises, Sinks, FirstBelow};
 use super::records::{exchange, leads_at};
 use super::{Order, Record};
 
-// Moves the owner at place i up past those whose keys come later.
+/// Moves the owner at place i up past those whose keys come later.
 pub(crate) fn sift_up<K: Order>(records: &mut [Record<K>], count: usize, i: usize)
     requires { Placed records.old count × (i < count) × Rises (none_first K.Order.leads) (key_at records.old) i count }
     ensures heap { Heap K.Order.leads records.new count }
@@ -25,7 +25,7 @@ pub(crate) fn sift_up<K: Order>(records: &mut [Record<K>], count: usize, i: usiz
     }
 }
 
-// The place below place i, which has one, whose key comes first.
+/// The place below place i, which has one, whose key comes first.
 fn first_below<K: Order>(records: &[Record<K>], count: usize, i: usize) -> usize
     requires { Placed records.now count × (i * 2 + 1 < count) }
     ensures { FirstBelow (none_first K.Order.leads) (key_at records.now) i result count }
@@ -39,7 +39,7 @@ fn first_below<K: Order>(records: &[Record<K>], count: usize, i: usize) -> usize
     }
 }
 
-// Moves the owner at place i down past those whose keys come earlier.
+/// Moves the owner at place i down past those whose keys come earlier.
 pub(crate) fn sift_down<K: Order>(records: &mut [Record<K>], count: usize, i: usize)
     requires { Placed records.old count × (i < count) × Sinks (none_first K.Order.leads) (key_at records.old) i count }
     ensures heap { Heap K.Order.leads records.new count }
@@ -58,7 +58,7 @@ pub(crate) fn sift_down<K: Order>(records: &mut [Record<K>], count: usize, i: us
     }
 }
 
-// Brings the owner at place i, whose key alone may be out of order, to where it belongs.
+/// Brings the owner at place i, whose key alone may be out of order, to where it belongs.
 pub(crate) fn settle<K: Order>(records: &mut [Record<K>], count: usize, i: usize)
     requires { Placed records.old count × (i < count) × Gap (none_first K.Order.leads) (key_at records.old) i count }
     ensures heap { Heap K.Order.leads records.new count }

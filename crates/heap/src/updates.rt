@@ -6,7 +6,7 @@ use super::records::{exchange, place_of, rekey, seat};
 use super::sifts::{settle, sift_up};
 use super::{Order, Record};
 
-// Takes in an owner that is out.
+/// Takes in an owner that is out.
 pub(crate) fn insert<K: Order + Drop>(records: &mut [Record<K>], count: usize, owner: usize, key: K)
     requires { Heap K.Order.leads records.old count × (owner < length records.old) × (keys records.old count owner ≡ None) }
     ensures { Changed K.Order.leads records.old count records.new (count + 1) owner (Some key) }
@@ -16,7 +16,7 @@ pub(crate) fn insert<K: Order + Drop>(records: &mut [Record<K>], count: usize, o
     sift_up(records, count + 1, count);
 }
 
-// Gives an owner that is in another key.
+/// Gives an owner that is in another key.
 pub(crate) fn change<K: Order + Drop>(records: &mut [Record<K>], count: usize, owner: usize, key: K)
     requires { Heap K.Order.leads records.old count × (is_some (keys records.old count owner) ≡ true) }
     ensures { Changed K.Order.leads records.old count records.new count owner (Some key) }
@@ -26,7 +26,7 @@ pub(crate) fn change<K: Order + Drop>(records: &mut [Record<K>], count: usize, o
     settle(records, count, place);
 }
 
-// Takes out an owner that is in: the last place is given up, and who stood there fills the gap.
+/// Takes out an owner that is in: the last place is given up, and who stood there fills the gap.
 pub(crate) fn remove<K: Order>(records: &mut [Record<K>], count: usize, owner: usize)
     requires { Heap K.Order.leads records.old count × (is_some (keys records.old count owner) ≡ true) }
     ensures { Changed K.Order.leads records.old count records.new (count - 1) owner None }

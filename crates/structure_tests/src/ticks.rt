@@ -20,7 +20,7 @@ impl Order for Tick {
     }
 }
 
-// Takes out the owner whose tick comes first.
+/// Takes out the owner whose tick comes first.
 fn take_first(ends: &mut IndexedHeap<Tick, 8>) -> Option<usize> {
     let (owner, _) = ends.root()?;
     ends.take(owner);

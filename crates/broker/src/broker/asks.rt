@@ -10,8 +10,8 @@ use price::Price;
 use rules::{Refusal, SlipNumbers};
 
 impl<P: Price> Broker<P> {
-    // Where the frame of a client's ask comes from: 0 where a frame is free, and else the lowest payer, if the client may
-    // take a frame from it.
+    /// Where the frame of a client's ask comes from: 0 where a frame is free, and else the lowest payer, if the client may
+    /// take a frame from it.
     // Kept: 0 is the free stack, as the owners of the ledger and the former owner in a slip's plain numbers have it.
     fn source(&self, client: u32) -> Result<u32, Refusal>
         ensures { Sourced self.now client result }
@@ -31,7 +31,7 @@ impl<P: Price> Broker<P> {
         Ok(lowest.client)
     }
 
-    // Grants a client a frame, by the plain numbers of its slip.
+    /// Grants a client a frame, by the plain numbers of its slip.
     pub(crate) fn grant(&mut self, client: u32) -> Result<SlipNumbers, Refusal>
         ensures step { Stepped self.old (Ask client) (answered Granted result) self.new }
         ensures opens { IfOk result (λ s. Opens client s self.new) }

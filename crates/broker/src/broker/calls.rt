@@ -33,7 +33,7 @@ impl<P: Price> Broker<P> {
         self.pool.start(unit, frames)
     }
 
-    // Closes the open passage, where these are the numbers of its slip.
+    /// Closes the open passage, where these are the numbers of its slip.
     pub(crate) fn close(&mut self, slip: SlipNumbers) -> Result<(), Refusal>
         ensures { Stepped self.old (Deliver slip) (answered (λ _. Done) result) self.new }
     {

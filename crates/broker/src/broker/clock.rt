@@ -8,7 +8,7 @@ use price::Price;
 use rules::Refusal;
 
 impl<P: Price> Broker<P> {
-    // Drops every estimate that ends by a tick, and answers how many.
+    /// Drops every estimate that ends by a tick, and answers how many.
     fn end_estimates(&mut self, tick: u32) -> u32
         ensures { Ended tick self.old result self.new }
     {

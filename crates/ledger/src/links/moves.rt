@@ -5,7 +5,7 @@ ghost use Rattle.ledger.specs.Links.{stacks, many};
 
 use super::{Links, Stack};
 
-// Links each frame from 1 on to the next.
+/// Links each frame from 1 on to the next.
 fn link_down(below: &mut [u16], frames: u16)
     requires { (frames < length below.old) × (frames ≤ 4_096) }
     ensures { (f : ℕ) → 1 ≤ f → f ≤ frames → slice_index below.new f ≡ f + 1 }
@@ -17,7 +17,7 @@ fn link_down(below: &mut [u16], frames: u16)
 }
 
 impl Links {
-    // Stacks without frames.
+    /// Stacks without frames.
     pub(crate) fn blank() -> Links
         ensures many { many result ≡ 0 }
         ensures stacks { (o : ℕ) → stacks result o ≡ [] }
@@ -28,21 +28,21 @@ impl Links {
         }
     }
 
-    // How many frames an owner's stack has.
+    /// How many frames an owner's stack has.
     pub(crate) fn height_of(&self, owner: usize) -> u16
         ensures { result ≡ length (stacks self.now owner) }
     {
         self.stacks.get(owner).map_or(0, |stack| stack.height)
     }
 
-    // Whether an owner's stack has no frame.
+    /// Whether an owner's stack has no frame.
     pub(crate) fn is_empty(&self, owner: usize) -> bool
         ensures { MatchBool result (stacks self.now owner ≡ []) ((owner < 257) × (0 < length (stacks self.now owner))) }
     {
         self.height_of(owner) == 0
     }
 
-    // Puts the first frames into the free stack, where no stack has any.
+    /// Puts the first frames into the free stack, where no stack has any.
     pub(crate) fn fill(&mut self, frames: u16)
         requires { (many self.old ≡ 0) × (frames ≤ 4_096) }
         ensures many { many self.new ≡ frames }
@@ -55,7 +55,7 @@ impl Links {
         };
     }
 
-    // Moves the top frame of a stack that has one onto another.
+    /// Moves the top frame of a stack that has one onto another.
     pub(crate) fn shift(&mut self, from: usize, to: usize) -> u16
         requires { (from < 257) × (to < 257) × (from ≢ to) × (0 < length (stacks self.old from)) }
         ensures many { many self.new ≡ many self.old }
@@ -76,7 +76,7 @@ impl Links {
         frame
     }
 
-    // Moves all frames of an owner other than 0 onto the free stack, one after the other.
+    /// Moves all frames of an owner other than 0 onto the free stack, one after the other.
     pub(crate) fn release(&mut self, owner: usize) -> u16
         requires { (owner ≢ 0) }
         ensures many { many self.new ≡ many self.old }

@@ -55,7 +55,7 @@ impl Pool {
         Ok(())
     }
 
-    // The place in the table for an admission that may be granted.
+    /// The place in the table for an admission that may be granted.
     fn admissible(&self, asked: Admission) -> Result<usize, Refusal>
         ensures { Replies (admit_entries (view self.now) asked) (λ i. suc i ≡ asked.client) result }
     {

@@ -12,7 +12,7 @@ use crate::member::Member;
 use rules::{Estimate, Refusal};
 
 impl Pool {
-    // What is noted of a client that may call: while no passage is open, and the client is admitted.
+    /// What is noted of a client that may call: while no passage is open, and the client is admitted.
     pub(crate) fn caller(&self, client: u32) -> Result<Member, Refusal>
         ensures { Replies (caller_entries (view self.now) client) (λ x. by_number self.now.members client ≡ Some x) result }
     {
@@ -49,7 +49,7 @@ impl Pool {
         Ok(frames as u32)
     }
 
-    // What is noted of a client whose estimate may be set.
+    /// What is noted of a client whose estimate may be set.
     fn estimable(&self, client: u32, estimate: Estimate) -> Result<Member, Refusal>
         ensures { Replies (estimate_entries (view self.now) client estimate) (λ x. by_number self.now.members client ≡ Some x) result }
     {

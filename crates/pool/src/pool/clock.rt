@@ -24,7 +24,7 @@ impl Pool {
         Ok(())
     }
 
-    // The client whose estimate ends first, if it ends by this tick, and what is noted of that client.
+    /// The client whose estimate ends first, if it ends by this tick, and what is noted of that client.
     fn first_ended(&self, tick: u32) -> Option<(usize, Member)>
         ensures { MatchOption result ((c : ℕ) → ends tick ((view self.now).clients c) ≡ 0) (λ p. Numbered p.0 × (by_number self.now.members p.0 ≡ Some p.1) × (ended tick p.1.estimate ≡ 1)) }
     {

@@ -22,7 +22,7 @@ impl Pool {
         Ok(member)
     }
 
-    // The numbers of the slip of the next ask that is granted.
+    /// The numbers of the slip of the next ask that is granted.
     fn next_slip(&self, client: u32, frame: u32, former: u32) -> SlipNumbers
         ensures { result ≡ slip-of (view self.now) client frame former }
     {

@@ -12,7 +12,7 @@ use super::Pool;
 use crate::member::{Member, Totals};
 use rules::Refusal;
 
-// The place of a client in the table. A client number outside 1 to 256 is refused.
+/// The place of a client in the table. A client number outside 1 to 256 is refused.
 pub(super) fn place(client: u32) -> Result<usize, Refusal>
     ensures { Replies (entry ClientOutOfRange (Outside 1 256 client) ∷ []) (λ i. suc i ≡ client) result }
 {
@@ -30,7 +30,7 @@ impl Pool {
         self.members[place(client)?].ok_or(Refusal::NotAdmitted)
     }
 
-    // Whether a client with this number is admitted.
+    /// Whether a client with this number is admitted.
     pub(crate) fn is_admitted(&self, client: u32) -> bool
         requires { Numbered client }
         ensures { result ≡ is_some (by_number self.now.members client) }
@@ -53,7 +53,7 @@ impl Pool {
         Ok(self.height(client))
     }
 
-    // The shares and the minimums of all clients, each added up.
+    /// The shares and the minimums of all clients, each added up.
     pub(crate) fn totals(&self) -> Totals
         ensures shares { result.shares ≡ all_shares (view self.now) }
         ensures minimums { result.minimums ≡ total (minimum_of (present (view self.now))) }
