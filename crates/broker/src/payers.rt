@@ -48,6 +48,7 @@ impl Payers {
 
     /// Lists a client of a pool anew: with its bid at its holding, where it holds more than its minimum, and else not at
     /// all.
+    // Kept: price and pool are lent one by one, since no method of the broker may run while its list is not yet right.
     pub(crate) fn relist<P: Price>(&mut self, price: &P, pool: &Pool, client: u32)
         ensures { Relisted (P.Price.meaning price.now) (view pool.now) client self.old self.new }
     {

@@ -11,7 +11,7 @@ use Rattle.broker.specs.declared.broker.Broker.{Broker}
 use Rattle.broker.specs.View.{meaning, view, Led}
 use Rattle.price.specs.declared.telling.Price.{Ghosts}
 use Rattle.broker.proofs.Steps.{guaranteed}
-use Rattle.family.specs.Orders.{Order, At, Made, Obeyed, Obeys, none, one, nowhere, Done}
+use Rattle.family.specs.Orders.{Order, At, Called, Obeyed, Obeys, none, one, nowhere, InTurn}
 use Rattle.family.proofs.Places.{nth_set_same, nth_set_other}
 
 some_same : {A : Type 0} {a b : A} → ◌≡◌ {A = Option A} (Some a) (Some b) → a ≡ b
@@ -26,7 +26,7 @@ module _ {P : Type 0} {ghosts : Ghosts P} where
   unfolding own
   carries_none bs i b e = (b, e, λ g led. led)
 
-  carries_one : (bs : List (Broker P ghosts)) (h : List Tagged) (cs ds : List (Broker P ghosts)) (o : Order) (a : Result Answer Refusal) → Carries bs h cs → (made : Made cs o a ds) →
+  carries_one : (bs : List (Broker P ghosts)) (h : List Tagged) (cs ds : List (Broker P ghosts)) (o : Order) (a : Result Answer Refusal) → Carries bs h cs → (made : Called cs o a ds) →
       Carries bs (tagged o.broker (event o.call a (view made.after)) ∷ h) ds
   unfolding own
   carries_one bs h cs ds o a sofar made i b e =
@@ -75,7 +75,7 @@ module _ {P : Type 0} {ghosts : Ghosts P} where
     sofar_one (Some a) ds made = more (Some a) _ ds (one s.obeyed made) (carries_one bs s.events cs ds o a s.carries made)
     sofar_one None ds (far, same) = subst (λ (l : List (Broker P ghosts)). Sofar bs os before (i + 1) l (set after i None)) (sym same) (more None s.events cs (nowhere o s.obeyed far) s.carries)
 
-  pub all_done : (bs : List (Broker P ghosts)) (os : List Order) (before : List (Option (Result Answer Refusal))) (i : ℕ) (cs : List (Broker P ghosts)) (after : List (Option (Result Answer Refusal))) → i ≡ length os → Sofar bs os before i cs after → Done bs os before cs after
+  pub all_done : (bs : List (Broker P ghosts)) (os : List Order) (before : List (Option (Result Answer Refusal))) (i : ℕ) (cs : List (Broker P ghosts)) (after : List (Option (Result Answer Refusal))) → i ≡ length os → Sofar bs os before i cs after → InTurn bs os before cs after
   all_done bs os before i cs after e s =
       record {
         events = s.events;

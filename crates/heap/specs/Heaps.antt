@@ -68,7 +68,7 @@ present None = 0
 present (Some k) = 1
 
 module _ {K : Type 0} (le : K → K → Bool) where
-  -- One product of four, and no record, so that a struct can keep it as one ghost field.
+  -- A product of four, which a struct keeps as one ghost field.
   abbrev pub Heap : List (Record K) → ℕ → Type 0
   Heap xs n = (n ≤ length xs) × Named xs n × Noted xs n × Ordered (none_first le) (key_at xs) n
 

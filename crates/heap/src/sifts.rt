@@ -1,4 +1,6 @@
 //! The ways of an owner through the heap to where its key belongs.
+// Kept: `heap` and `map` stand in three contracts: a word for both would be a record of these two, and each proof above
+// takes them by the same names.
 ghost use Rattle.std.specs.Prelude.{◌≡◌, ℕ, ◌+◌, ◌*◌, ◌<◌};
 ghost use Rattle.heap.specs.Heaps.{Heap, Placed, keys, key_at, none_first};
 ghost use Rattle.heap.specs.Steps.{Gap, Rises, Sinks, FirstBelow};

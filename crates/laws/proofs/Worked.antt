@@ -87,7 +87,7 @@ worked_examples =
     record {
       share_price = refl;
       taxed_price = refl;
-      untaxed = refl;
+      no_estimate = refl;
       class_price = refl;
       seven_frames = settled_by share 7 (trio 0 7) (three 5 2 0 0) (none_past 0 7 5 2 0) refl refl refl;
       a_minimum = settled_by share 7 (trio 1 7) (three 4 2 1 0) (none_past 1 7 4 2 1) refl refl refl;

@@ -42,7 +42,7 @@ pub record WorkedExamples : Type 0 where
   -- the same under the taxed price at 75, with 2 frames active
   pub taxed_price : taxed 75 (hundred 0 (Some 2) 4) ≡ quote 0 2500 250
   -- and without an estimate
-  pub untaxed : taxed 75 (hundred 0 None 4) ≡ quote 0 2500 100
+  pub no_estimate : taxed 75 (hundred 0 None 4) ≡ quote 0 2500 100
   -- class 3 over the share price
   pub class_price : classed share (hundred 3 None 4) ≡ quote 3 100 4
   -- seven frames among three clients

@@ -7,7 +7,7 @@
 -- FramesLieOnce              every frame of the pool lies in exactly one stack, once, and nothing else lies in any
 -- OneAnswer                  a call on a broker has one answer, and leaves one broker
 -- EveryCallIsAnswered        a call that is not refused is accepted
--- ListsRise                  the numbers rise along every list of refusals
+-- ListsRise                  the numbers rise along the refusals of every call and every question
 -- Asked                      a client has asked
 -- RestIsReached              where only asks and deliveries are accepted, accepted asks end and the broker comes to rest
 -- LowestPayerIsFound         there is one lowest payer, or none

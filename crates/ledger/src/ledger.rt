@@ -8,6 +8,8 @@ mod questions;
 use super::links::Links;
 
 /// The stacks of all owners. Each of the frames 1 to `frames` lies in exactly one of them, once, and nothing else does.
+// Kept: owner 0 is the free stack: it is moved from and to like any other, and an `Option` of an owner would make each move
+// two cases.
 #[derive(Drop)]
 pub struct Ledger {
     frames: u16,

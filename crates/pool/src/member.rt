@@ -22,6 +22,7 @@ pub struct Member {
 }
 
 /// Sums over all clients.
+// Kept: one loop takes both; a function for each would be two loops that differ in a field.
 #[derive(Clone, Copy, Drop)]
 pub struct Totals {
     pub shares: u64,

@@ -17,8 +17,8 @@ mod questions;
 
 /// The pool of one broker, in fixed memory. Client c stands in place c - 1 of the table, and its frames in stack c of the
 /// ledger; stack 0 has the free frames. The ends of the estimates are kept besides, the earliest first.
-// Kept: fixed memory: the table has no place for number 0, which is nobody's, while in the ledger and the heap of ends a
-// client's own number is its place, since 0 there is the free stack or nobody.
+// Kept: the table has no place for number 0, which is nobody's, as the rules list what they count by client (`by_number`);
+// in the ledger and the heap of ends a client's own number is its place, since 0 there is the free stack or nobody.
 #[derive(Drop)]
 pub struct Pool {
     unit: u32,

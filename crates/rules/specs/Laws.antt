@@ -1,4 +1,4 @@
--- What holds of the rank, of the prices and of the lists above. Each law is demanded by a function of this crate and
+-- What holds of the rank, of the prices and of the lists of refusals. Each law is demanded by a function of this crate and
 -- proved in proofs/.
 --
 -- Made            the offer of a bid is one that a client can make
@@ -6,7 +6,7 @@
 -- RanksInLine     under a price the rank is one line, and falls with the count for each client
 -- RankIsOneLine   so it is under every lawful price
 -- PricesLawful    the prices are lawful
--- ListsRise       the numbers rise along every list of refusals
+-- ListsRise       the numbers rise along the refusals of an offer, of a tax rate, of a sheet and of a buffer
 use Rattle.std.specs.Prelude.{◌≡◌, ℕ, ◌<◌, ◌≤◌, Bool, ◌⊎◌}
 use Rattle.rules.specs.Offers.{Meaning, Valid, Lawful}
 use Rattle.rules.specs.Prices.{share, taxed, classed, one_of}

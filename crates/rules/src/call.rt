@@ -11,6 +11,7 @@ pub struct Estimate {
 
 /// The five numbers of a slip: the unit, the client that gets the frame, the frame, its former owner (0 for a free
 /// frame), and the count of asks accepted so far, this one included, modulo 2^64.
+// Kept: the project gives the slip as five plain numbers, so 0 is the former owner of a free frame, and no `None`.
 #[derive(Clone, Copy, PartialEq, Eq, Debug, Drop)]
 pub struct SlipNumbers {
     pub unit: u32,
@@ -34,7 +35,7 @@ pub struct Admission {
 #[derive(Clone, Copy, PartialEq, Eq, Debug, Drop)]
 pub enum Call {
     /// Gives a new broker its unit number and its frames.
-    // Kept: two numbers of different kinds, which a struct of their own would make no plainer.
+    // Kept: the two numbers part at once, the unit's and the ledger's; an estimate is kept as the one value that it is.
     Start { unit: u32, frames: u32 },
     /// Admits a client under its terms.
     Admit(Admission),
@@ -47,6 +48,7 @@ pub enum Call {
     /// Lets a client go with all its frames.
     Leave { client: u32 },
     /// Sets a client's estimate.
+    // Kept: the estimate is what is kept of the client, under its number, so the number stands beside it.
     SetEstimate { client: u32, estimate: Estimate },
     /// Sets the clock.
     SetClock { tick: u32 },

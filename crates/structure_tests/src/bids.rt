@@ -48,7 +48,7 @@ fn the_first_field_that_differs_decides(rt: HostRuntime) {
     let three = heap::put(&mut records, two, 2, of_class(1, 8));
     assert_eq!(rt; owner_of(heap::root(&records, three)), Some(2));
     let left = heap::take(&mut records, three, 2);
-    assert_eq!(rt; heap::contains(&records, left, 2), false);
+    assert!(rt; !heap::contains(&records, left, 2));
     assert_eq!(rt; heap::key(&records, left, 1).copied(), Some(of_class(1, 7)));
     assert_eq!(rt; owner_of(heap::root(&records, left)), Some(1));
 }

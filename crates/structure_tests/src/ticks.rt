@@ -8,6 +8,7 @@ use heap::{IndexedHeap, Order};
 struct Tick(u32);
 
 // The earlier tick leads.
+// Kept: `pool` has a key like this one, which is its own and no test's.
 impl Order for Tick {
     ghost leads = { λ a b. nat_le a.0 b.0 };
 

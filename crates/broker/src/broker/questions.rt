@@ -45,6 +45,7 @@ impl<P: Price> Broker<P> {
     pub fn price_at(&self, client: u32, count: u32) -> Result<Quote, Refusal>
         ensures { Replies (price_entries (view self.now) client count) (λ q. q ≡ price_at (meaning self.now) (view self.now) client count) result }
     {
+        // Kept: the count is judged after the client's number and before its admission, which `member` judges together.
         if !(1..=256).contains(&client) {
             return Err(Refusal::ClientOutOfRange);
         }

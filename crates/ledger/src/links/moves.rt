@@ -10,7 +10,7 @@ fn link_down(below: &mut [u16], frames: u16)
     requires { (frames < length below.old) × (frames ≤ 4_096) }
     ensures { (f : ℕ) → 1 ≤ f → f ≤ frames → slice_index below.new f ≡ f + 1 }
 {
-    // Kept: the frame is the index; `for (frame, under) in (1..=frames).zip(&mut below[1..])` is no plainer.
+    // Kept: the frame is the index, and of places that are written through a zip nothing is known behind the loop.
     for frame in 1..=frames {
         below[frame as usize] = frame + 1;
     }

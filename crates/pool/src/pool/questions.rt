@@ -6,7 +6,7 @@ ghost use Rattle.laws.specs.ByNumber.{total, Numbered, by_number};
 ghost use Rattle.laws.specs.Division.{minimum_of};
 ghost use Rattle.laws.specs.Broker.{holding as held, present, all_shares, share_of};
 ghost use Rattle.laws.specs.Questions.{client_entries};
-ghost use Rattle.pool.specs.View.{view, height, NextClient};
+ghost use Rattle.pool.specs.View.{view, height, Noted, NextClient};
 
 use super::Pool;
 use crate::member::{Member, Totals};
@@ -25,7 +25,7 @@ pub(super) fn place(client: u32) -> Result<usize, Refusal>
 impl Pool {
     /// What is noted of a client. A client number outside 1 to 256 is refused, and then a client that is not admitted.
     pub fn member(&self, client: u32) -> Result<Member, Refusal>
-        ensures { Replies (client_entries (view self.now) client) (λ x. by_number self.now.members client ≡ Some x) result }
+        ensures { Replies (client_entries (view self.now) client) (Noted self.now client) result }
     {
         self.members[place(client)?].ok_or(Refusal::NotAdmitted)
     }
@@ -90,8 +90,6 @@ impl Pool {
     pub fn next_client(&self, after: u32) -> Option<u32>
         ensures { NextClient (view self.now) after result }
     {
-        (after..256)
-            .find(|&place| self.is_admitted(place + 1))
-            .map(|place| place + 1)
+        (after.saturating_add(1)..257).find(|&client| self.is_admitted(client))
     }
 }

@@ -1,4 +1,4 @@
-use Rattle.std.proofs.Common.{◌≡◌, ◌+◌, Some, None, MatchOption, rules}
+use Rattle.std.proofs.Common.{rules, arith}
 use Rattle.std.proofs.lemmas.Iterator.{first_from_Range}
 use Rattle.pool.proofs.Nexts.{Admitted, Free, next_of}
 use Rattle.pool.proofs.pool.Pool.next_client.Goals as goal
@@ -7,5 +7,4 @@ pub returns : goal.returns
 returns c =
     let b = c.args.self.now in
     let found = first_from_Range _ _ _ _ (Admitted b.members) (Free b.members) c.find.ensures.ran (λ x q e. search rules) (λ x q e. search rules) in
-    let told : MatchOption c.find.result (c.map.result ≡ None) (λ i. c.map.result ≡ Some (i + 1)) = search rules in
-    next_of b c.args.after c.find.result c.map.result found told
+    next_of b c.args.after _ c.find.result (λ d h. (λ l. omega (arith, c.saturating_add.ensures, l, h), λ l. omega (arith, c.saturating_add.ensures, l, h))) found
