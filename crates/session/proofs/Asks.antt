@@ -64,15 +64,15 @@ module _ (m : Meaning) (b : rules.Broker) (few : (d : ℕ) → holding b d ≤ 4
       record { asker = refl; some = given (put b.clients p (Some (with_stack y fs))) x f g most refl; less = t.0; over = t.1 }
 
 -- the slip that opened the passage is delivered
-pub delivers : {P : Type 0} {o : Ghosts P} (g d : Broker P o) (s : SlipNumbers) (r : Result (Unit {0}) Undelivered) → (view g).passage ≡ Some s → Stepped g (Deliver s) (delivered r) d → IsOk r
-delivers g d s (Ok x) e t = refl
-delivers g d s (Err u) e t = absurd (not_refused (view d) t.step)
+pub delivers : {P : Type 0} {o : Ghosts P} {g d : Broker P o} {s : SlipNumbers} (r : Result (Unit {0}) Undelivered) → (view g).passage ≡ Some s → Stepped g (Deliver s) (delivered r) d → IsOk r
+delivers (Ok x) e t = refl
+delivers {g = g} {d = d} {s = s} (Err u) e t = absurd (not_refused (view d) t.step)
   where
     not_refused : (w : rules.Broker) → Step (meaning g) (view g) (Deliver s) (Err u.refusal) w → ⊥
     not_refused w (Calls.refused (inl (h, _))) = h e
     not_refused w (Calls.refused (inr (_, h))) = h
 
-module _ {P : Type 0} {ghosts : Ghosts P} (b g : Broker P ghosts) (c : ℕ) (s : SlipNumbers) (a : Stepped b (Ask c) (Ok (Granted s)) g) (o : Opens c s g) where
+module _ {P : Type 0} {ghosts : Ghosts P} {b g : Broker P ghosts} {c : ℕ} {s : SlipNumbers} (a : Stepped b (Ask c) (Ok (Granted s)) g) (o : Opens c s g) where
   abbrev m : Meaning
   m = meaning b
 
@@ -83,7 +83,7 @@ module _ {P : Type 0} {ghosts : Ghosts P} (b g : Broker P ghosts) (c : ℕ) (s :
   pub has_prices : HasPrice (view g) s.client 0 × Lost (view g) s.former
   has_prices = (subst (λ (n : ℕ). HasPrice (view g) n 0) (sym left_by.asker) left_by.some, left_by.less)
 
-  module _ (d : Broker P ghosts) (t : Stepped g (Deliver s) (Ok Done) d) where
+  module _ {d : Broker P ghosts} (t : Stepped g (Deliver s) (Ok Done) d) where
     abbrev calls : List history.Event
     calls = history.event (Deliver s) (Ok Done) (view d) ∷ history.event (Ask c) (Ok (Granted s)) (view g) ∷ []
 
