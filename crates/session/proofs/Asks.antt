@@ -95,8 +95,8 @@ module _ {P : Type 0} {ghosts : Ghosts P} {b g : Broker P ghosts} {c : ℕ} {s :
     paid n k = record { client = s.client; frame = s.frame; paying = price_at m (view g) s.client n; taken = k }
 
     -- what is printed of the ask is its grant
-    pub ask_printed : (p : Grant) → p ≡ grant_after (meaning g) (view g) s → Performed b (event.Ask c) (Ok (line.Grant p)) d
-    ask_printed p e =
+    pub ask_printed : {p : Grant} → p ≡ grant_after (meaning g) (view g) s → Performed b (event.Ask c) (Ok (line.Grant p)) d
+    ask_printed {p = p} e =
         let none_more : holding (view g) s.client + 0 ≡ holding (view g) s.client = omega arith in
         let same : p ≡ grant_of m (view b) s (view g) = e ∙ (ap (λ (q : P). grant_after (ghosts.meaning q) (view g) s) a.price
         ∙ (ap (λ (n : ℕ). paid n (taken_from m (view g) s.former)) none_more ∙ ap (λ (k : Option Taken). paid (holding (view g) s.client) k) left_by.over)) in

@@ -16,4 +16,4 @@ grant-grant-requires g c = rw c.numbers.ensures (has_prices c.in_ok-slip.ensures
 
 pub returns : goal.returns
 returns g c =
-    ask_printed c.in_ok-slip.ensures.step c.in_ok-slip.ensures.opens (rw c.unwrap.ensures at c.deliver.ensures.step) _ (rw c.numbers.ensures at c.grant-grant.ensures)
+    ask_printed c.in_ok-slip.ensures.step c.in_ok-slip.ensures.opens (rw c.unwrap.ensures at c.deliver.ensures.step) (rw c.numbers.ensures at c.grant-grant.ensures)
