@@ -1,11 +1,9 @@
 -- Asks: the prices that are printed of a grant, and its delivery.
-use Rattle.std.specs.Result.{IsOk, IsOkAnd, MatchResult}
+use Rattle.std.specs.Result.{IsOk}
 use Rattle.std.proofs.Common.{◌≡◌, ℕ, zero, suc, ◌+◌, ◌≤◌, ◌≢◌, List, [], ◌∷◌, length, Some, Ok, Err, Option, Result, sym, refl, ap, ◌∙◌, subst, inl, inr, arith}
 use Rattle.rules.specs.Offers.{Meaning}
 use Rattle.rules.specs.Rank.{bid_at, told}
-use Rattle.rules.specs.Refusals.{First, Replies}
 use Rattle.rules.specs.declared.offer.Quote.{Quote}
-use Rattle.rules.specs.declared.refusal.Refusal.{Refusal}
 use Rattle.laws.specs.ByNumber.{put}
 use Rattle.laws.specs.Division.{terms}
 use Rattle.laws.specs.Broker as rules
@@ -13,44 +11,21 @@ use Rattle.laws.specs.Broker.{SlipNumbers, holding, terms_of, stack_of}
 use Rattle.laws.specs.Calls
 use Rattle.laws.specs.Calls.{Ask, Deliver, Done, Granted, Step, Absent, with_stack}
 use Rattle.laws.specs.Histories as history
-use Rattle.laws.specs.Questions.{client_entries, price_entries, price_at}
+use Rattle.laws.specs.Questions.{price_at}
 use Rattle.laws.proofs.Kept.{none_some}
-use Rattle.laws.proofs.One.{first_or_clear}
 use Rattle.laws.proofs.Puts.{put_at, put_off}
-use Rattle.pool.specs.declared.pool.Pool.{Pool}
-use Rattle.pool.specs.View as pool
 use Rattle.broker.specs.declared.broker.Broker.{Broker}
 use Rattle.broker.specs.declared.slip.Undelivered.{Undelivered}
 use Rattle.broker.specs.View.{meaning, view, delivered, Stepped, Opens}
 use Rattle.price.specs.declared.telling.Price.{Ghosts}
 use Rattle.events.specs.declared.event.Event.TheVariants as event
 use Rattle.session.specs.declared.printed.Grant.{Grant}
-use Rattle.session.specs.declared.printed.Printed.{Printed}
 use Rattle.session.specs.declared.printed.Printed.TheVariants as line
 use Rattle.session.specs.Session.{Performed, taken_of, grant_of, granted}
 use Rattle.session.specs.Session as session
 use Rattle.session.specs.declared.printed.Taken.{Taken}
-use Rattle.session.specs.Asks.{HasPrice, Priced, Lost, lost_by, taken_from, grant_after, GrantOf}
-use Rattle.session.proofs.Holding.{few_held, holding_told, price_told}
-
--- the holding is told of every client that is there
-pub holding_refused : (b : Pool) (c : ℕ) (r : Refusal) → First (client_entries (pool.view b) c) r → (Absent (pool.view b) c → ⊥) → ⊥
-holding_refused b c r f there = first_or_clear (client_entries (pool.view b) c) r f (holding_told b c there)
-
--- the price is told at every count that a client may hold
-pub price_asked : {P : Type 0} {g : Ghosts P} (b : Broker P g) (c n k : ℕ) → n ≡ holding (view b) c → (r : Result Quote Refusal) →
-    Replies (price_entries (view b) c (n + k)) (λ q. q ≡ price_at (meaning b) (view b) c (n + k)) r → Priced b c k r
-price_asked b c n k e (Ok q) (_, t) = t ∙ ap (λ (h : ℕ). price_at (meaning b) (view b) c (h + k)) e
-price_asked b c n k e (Err r) f = λ may. first_or_clear (price_entries (view b) c (n + k)) r f (price_told b.pool c may.0 (n + k) (omega (arith, e, may.1)) (omega (arith, e, may.2)))
-
--- who lost a frame, where it was not free
-pub taken_refused : (b : rules.Broker) (p : ℕ) → (p ≡ 0 → ⊥) → (HasPrice b p 1 → ⊥) → Lost b p → ⊥
-taken_refused b zero some never l = some refl
-taken_refused b (suc p) some never l = never l
-
-pub taken_told : (m : Meaning) (b : rules.Broker) (p : ℕ) (t : Taken) → (p ≡ 0 → ⊥) → t ≡ lost_by m b p → Some t ≡ taken_from m b p
-taken_told m b zero t some e = absurd (some refl)
-taken_told m b (suc p) t some e = ap Some e
+use Rattle.session.specs.Asks.{HasPrice, Lost, taken_from, grant_after}
+use Rattle.session.proofs.Holding.{few_held}
 
 -- what an ask that is granted leaves
 pub record Leaves (m : Meaning) (b : rules.Broker) (c : ℕ) (s : SlipNumbers) (g : rules.Broker) : Type 0 where
@@ -89,46 +64,43 @@ module _ (m : Meaning) (b : rules.Broker) (few : (d : ℕ) → holding b d ≤ 4
       record { asker = refl; some = given (put b.clients p (Some (with_stack y fs))) x f g most refl; less = t.0; over = t.1 }
 
 -- the slip that opened the passage is delivered
-pub delivers : {P : Type 0} {o : Ghosts P} (g d : Broker P o) (s : SlipNumbers) (r : Result (Unit {0}) Undelivered) → (view g).passage ≡ Some s → Stepped g (Deliver s) (delivered r) d → IsOk r
-delivers g d s (Ok x) e t = refl
-delivers g d s (Err u) e t = absurd (not_refused (view d) t.step)
+pub delivers : {P : Type 0} {o : Ghosts P} {g d : Broker P o} {s : SlipNumbers} (r : Result (Unit {0}) Undelivered) → (view g).passage ≡ Some s → Stepped g (Deliver s) (delivered r) d → IsOk r
+delivers (Ok x) e t = refl
+delivers {g = g} {d = d} {s = s} (Err u) e t = absurd (not_refused (view d) t.step)
   where
     not_refused : (w : rules.Broker) → Step (meaning g) (view g) (Deliver s) (Err u.refusal) w → ⊥
     not_refused w (Calls.refused (inl (h, _))) = h e
     not_refused w (Calls.refused (inr (_, h))) = h
 
-module _ {P : Type 0} {ghosts : Ghosts P} (b g d : Broker P ghosts) (c : ℕ) (s : SlipNumbers) (a : Stepped b (Ask c) (Ok (Granted s)) g) (o : Opens c s g) (t : Stepped g (Deliver s) (Ok Done) d) where
+module _ {P : Type 0} {ghosts : Ghosts P} {b g : Broker P ghosts} {c : ℕ} {s : SlipNumbers} (a : Stepped b (Ask c) (Ok (Granted s)) g) (o : Opens c s g) where
   abbrev m : Meaning
   m = meaning b
-
-  abbrev calls : List history.Event
-  calls = history.event (Deliver s) (Ok Done) (view d) ∷ history.event (Ask c) (Ok (Granted s)) (view g) ∷ []
 
   left_by : Leaves m (view b) c s (view g)
   left_by = leaves m (view b) (few_held b.pool) c s (view g) (few_held g.pool c) o.1 a.step
 
-  delivery : Step m (view g) (Deliver s) (Ok Done) (view d)
-  delivery = subst (λ (p : P). Step (ghosts.meaning p) (view g) (Deliver s) (Ok Done) (view d)) a.price t.step
+  -- the prices that are printed of the slip are there
+  pub has_prices : HasPrice (view g) s.client 0 × Lost (view g) s.former
+  has_prices = (subst (λ (n : ℕ). HasPrice (view g) n 0) (sym left_by.asker) left_by.some, left_by.less)
 
-  -- what is printed of the slip, with the asker's price at a count
-  abbrev paid : ℕ → Option Taken → Grant
-  paid n k = record { client = s.client; frame = s.frame; paying = price_at m (view g) s.client n; taken = k }
+  module _ {d : Broker P ghosts} (t : Stepped g (Deliver s) (Ok Done) d) where
+    abbrev calls : List history.Event
+    calls = history.event (Deliver s) (Ok Done) (view d) ∷ history.event (Ask c) (Ok (Granted s)) (view g) ∷ []
 
-  grant_printed : (p : Grant) → p ≡ grant_after (meaning g) (view g) s → Performed b (event.Ask c) (Ok (line.Grant p)) d
-  grant_printed p e =
-      let none_more : holding (view g) s.client + 0 ≡ holding (view g) s.client = omega arith in
-      let same : p ≡ grant_of m (view b) s (view g) = e ∙ (ap (λ (q : P). grant_after (ghosts.meaning q) (view g) s) a.price
-      ∙ (ap (λ (n : ℕ). paid n (taken_from m (view g) s.former)) none_more ∙ ap (λ (k : Option Taken). paid (holding (view g) s.client) k) left_by.over)) in
-      record {
-        performs = (calls, subst (λ (q : Grant). session.Performs m (view b) (event.Ask c) (Ok (line.Grant q)) calls (view d)) (sym same) (granted a.step delivery));
-        price = t.price ∙ a.price;
-      }
+    delivery : Step m (view g) (Deliver s) (Ok Done) (view d)
+    delivery = subst (λ (p : P). Step (ghosts.meaning p) (view g) (Deliver s) (Ok Done) (view d)) a.price t.step
 
-  grant_unprinted : (r : Refusal) → (HasPrice (view g) s.client 0 → Lost (view g) s.former → ⊥) → Performed b (event.Ask c) (Err r) d
-  grant_unprinted r f = absurd (f (subst (λ (n : ℕ). HasPrice (view g) n 0) (sym left_by.asker) left_by.some) left_by.less)
+    -- what is printed of the slip, with the asker's price at a count
+    abbrev paid : ℕ → Option Taken → Grant
+    paid n k = record { client = s.client; frame = s.frame; paying = price_at m (view g) s.client n; taken = k }
 
-  -- what is printed of the ask is its grant, or why it has none
-  pub ask_printed : (r : Result Grant Refusal) (q : Result Printed Refusal) → GrantOf g s r → MatchResult r (λ x. IsOkAnd q (λ p. p ≡ line.Grant x)) (λ e. q ≡ Err e) → Performed b (event.Ask c) q d
-  ask_printed (Ok x) (Ok p) told h = subst (λ (y : Printed). Performed b (event.Ask c) (Ok y) d) (sym h) (grant_printed x told)
-  ask_printed (Ok x) (Err e) told h = absurd h
-  ask_printed (Err e) q told h = subst (λ (y : Result Printed Refusal). Performed b (event.Ask c) y d) (sym h) (grant_unprinted e told)
+    -- what is printed of the ask is its grant
+    pub ask_printed : {p : Grant} → p ≡ grant_after (meaning g) (view g) s → Performed b (event.Ask c) (Ok (line.Grant p)) d
+    ask_printed {p = p} e =
+        let none_more : holding (view g) s.client + 0 ≡ holding (view g) s.client = omega arith in
+        let same : p ≡ grant_of m (view b) s (view g) = e ∙ (ap (λ (q : P). grant_after (ghosts.meaning q) (view g) s) a.price
+        ∙ (ap (λ (n : ℕ). paid n (taken_from m (view g) s.former)) none_more ∙ ap (λ (k : Option Taken). paid (holding (view g) s.client) k) left_by.over)) in
+        record {
+          performs = (calls, subst (λ (q : Grant). session.Performs m (view b) (event.Ask c) (Ok (line.Grant q)) calls (view d)) (sym same) (granted a.step delivery));
+          price = t.price ∙ a.price;
+        }

@@ -1,10 +1,9 @@
 -- Printed lines, put together from words, numbers and quotes.
-use Rattle.std.proofs.Common.{◌≡◌, ℕ, ◌≤◌, List, [], ◌++◌, length, codes, ap, ◌∙◌, append_assoc, arith}
+use Rattle.std.proofs.Common.{◌≡◌, ℕ, ◌<◌, ◌≤◌, decimal, List, [], ◌++◌, length, ◌∙◌, arith}
 use Rattle.std.proofs.lemmas.List.{length-append}
-use Rattle.rules.specs.declared.offer.Quote.{Quote}
+use Rattle.std.proofs.lemmas.Fmt.{length-decimal-le}
 use Rattle.text.specs.Texts.{cut}
 use Rattle.text.proofs.Cuts.{cut_pieces, cut_short, first_piece, grown}
-use Rattle.session.specs.Printed.{field, quoted}
 
 -- two pieces, put behind a text one after the other
 pub behind : {mid after : List ℕ} (bs one two : List ℕ) → mid ≡ cut (bs ++ one) → after ≡ cut (mid ++ two) → after ≡ cut (bs ++ (one ++ two))
@@ -22,10 +21,6 @@ pub two_numbers : {start mid after : List ℕ} (word ds then es : List ℕ) → 
     start ≡ [] → mid ≡ cut (start ++ (word ++ ds)) → after ≡ cut (mid ++ (then ++ es)) → after ≡ (word ++ ds) ++ (then ++ es)
 two_numbers word ds then es w t d k s e f = grown (word ++ ds) (then ++ es) (first_piece (word ++ ds) s e) f ∙ cut_short ((word ++ ds) ++ (then ++ es)) (simp length-append (omega (arith, w, t, d, k)))
 
--- a word and a quote behind a text, number by number
-pub quote_behind : {first second third : List ℕ} (bs word : List ℕ) (q : Quote) → first ≡ cut (bs ++ field word q.class) →
-    second ≡ cut (first ++ field (codes ":") q.top) → third ≡ cut (second ++ field (codes "/") q.bottom) → third ≡ cut (bs ++ (word ++ quoted q))
-quote_behind bs word q e f g =
-    let class_top = behind bs (field word q.class) (field (codes ":") q.top) e f in
-    let whole = behind bs (field word q.class ++ field (codes ":") q.top) (field (codes "/") q.bottom) class_top g in
-    whole ∙ ap (λ xs. cut (bs ++ xs)) (simp append_assoc)
+-- a number of the code takes 10 bytes at most
+pub decimal_short : (n : ℕ) → n < 4_294_967_296 → length (decimal n) ≤ 10
+decimal_short n fits = length-decimal-le 10 n (omega arith) (omega (arith, fits)) (omega (arith, fits))

@@ -1,8 +1,8 @@
 -- What a run prints, value by value.
-use Rattle.std.proofs.Common.{◌≡◌, ℕ, zero, suc, ◌+◌, ◌-◌, ◌<◌, List, [], ◌∷◌, length, take, Some, None, Ok, Err, Option, Result, sym, refl, ap, ◌∙◌, subst, inl, arith}
+use Rattle.std.proofs.Common.{◌≡◌, ℕ, zero, suc, ◌+◌, ◌-◌, ◌<◌, List, [], ◌∷◌, length, take, Some, None, Ok, Err, Result, sym, refl, ap, ◌∙◌, subst, arith}
 use Rattle.std.proofs.lemmas.List.{take-take}
 use Rattle.rules.specs.Offers.{Meaning}
-use Rattle.rules.specs.Refusals.{Replies, Outside}
+use Rattle.rules.specs.Refusals.{Replies}
 use Rattle.rules.specs.declared.offer.Quote.{Quote}
 use Rattle.rules.specs.declared.refusal.Refusal.{Refusal}
 use Rattle.events.specs.Input.{NextLine}
@@ -10,15 +10,12 @@ use Rattle.events.specs.Input as input
 use Rattle.events.proofs.Cutting.{cuts_on}
 use Rattle.laws.specs.Broker as rules
 use Rattle.laws.specs.Broker.{holding}
-use Rattle.laws.specs.Questions.{client_entries, price_entries, price_at}
+use Rattle.laws.specs.Questions.{price_entries, price_at}
 use Rattle.laws.proofs.One.{first_or_clear}
-use Rattle.pool.specs.declared.pool.Pool.{Pool}
-use Rattle.pool.specs.View as pool
 use Rattle.pool.specs.View.{NextClient}
 use Rattle.broker.specs.declared.broker.Broker.{Broker}
 use Rattle.broker.specs.View.{meaning, view, Led}
 use Rattle.price.specs.declared.telling.Price.{Ghosts}
-use Rattle.session.specs.declared.printed.Held.{Held}
 use Rattle.session.specs.declared.printed.Printed.{Printed}
 use Rattle.session.specs.declared.printed.Printed.TheVariants as line
 use Rattle.session.specs.declared.session.Session.{Session}
@@ -27,29 +24,17 @@ use Rattle.session.specs.declared.run.Stage.TheVariants.{Reading, Reporting}
 use Rattle.session.specs.Session.{Lined}
 use Rattle.session.specs.Run.{held_at, held_of, Reports, PrintsAll, StillAt, StillPrints, left_at, left, Nexts, Run, Gives, over, client, report, then, none, some}
 use Rattle.session.proofs.Holding.{few_held, holder_there, there_numbered, price_told}
-use Rattle.session.proofs.Asks.{holding_refused}
 
 -- who holds nothing has no price
 none_held : (m : Meaning) (b : rules.Broker) (c n : ℕ) → (0 < n → ⊥) → None ≡ held_at m b c n
 none_held m b c zero h = refl
 none_held m b c (suc n) h = absurd (h (omega arith))
 
-pub unheld : (m : Meaning) (b : Pool) (c : ℕ) (Q : ℕ → Type 0) (r : Result ℕ Refusal) → Replies (client_entries (pool.view b) c) Q r → ((n : ℕ) → r ≡ Ok n → ⊥) → None ≡ held_of m (pool.view b) c
-unheld m b c Q (Ok n) t never = absurd (never n refl)
-unheld m b c Q (Err r) t never = none_held m (pool.view b) c (holding (pool.view b) c) (λ h. holding_refused b c r t (holder_there b c h))
-
 pub unpriced : {P : Type 0} {g : Ghosts P} (b : Broker P g) (c n : ℕ) → n ≡ holding (view b) c → (r : Result Quote Refusal) →
     Replies (price_entries (view b) c n) (λ q. q ≡ price_at (meaning b) (view b) c n) r → ((q : Quote) → r ≡ Ok q → ⊥) → None ≡ held_of (meaning b) (view b) c
 unpriced b c n e (Ok q) t never = absurd (never q refl)
 unpriced b c n e (Err r) t never =
     none_held (meaning b) (view b) c (holding (view b) c) (λ h. first_or_clear (price_entries (view b) c n) r t (price_told b.pool c (holder_there b.pool c h) n (omega (arith, e, h)) (omega (arith, e, few_held b.pool c))))
-
-pub held_told : (m : Meaning) (b : rules.Broker) (c n : ℕ) (q : Quote) → (Outside 1 4_096 n → ⊥) → n ≡ holding b c → q ≡ price_at m b c n → Some (record { frames = n; price = q }) ≡ held_of m b c
-held_told m b c n q h e t = some_held n h t ∙ ap (held_at m b c) e
-  where
-    some_held : (k : ℕ) → (Outside 1 4_096 k → ⊥) → q ≡ price_at m b c k → ◌≡◌ {A = Option Held} (Some (record { frames = k; price = q })) (held_at m b c k)
-    some_held zero g u = absurd (g (inl (omega arith)))
-    some_held (suc k) g u = ap (λ (p : Quote). Some (record { frames = suc k; price = p })) u
 
 module _ {P : Type 0} {g : Ghosts P} (before : Run P g) where
   abbrev m : Meaning

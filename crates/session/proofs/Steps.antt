@@ -1,11 +1,12 @@
 -- Calls as the events of lines.
-use Rattle.std.proofs.Common.{◌≡◌, ℕ, List, [], ◌++◌, take, Ok, Err, Result, sym, refl, subst}
+use Rattle.std.specs.Result.{IsOkAnd, MatchResult}
+use Rattle.std.proofs.Common.{◌≡◌, ℕ, List, [], ◌∷◌, ◌++◌, take, Ok, Err, Result, sym, refl, subst}
 use Rattle.rules.specs.Offers.{Meaning}
 use Rattle.rules.specs.declared.refusal.Refusal.{Refusal}
 use Rattle.events.specs.declared.event.Event.{Event}
 use Rattle.events.specs.Faults.{Verdict}
 use Rattle.laws.specs.Broker as rules
-use Rattle.laws.specs.Calls.{Call, Answer, Step}
+use Rattle.laws.specs.Calls.{Answer, Step, answered}
 use Rattle.laws.specs.Histories as history
 use Rattle.laws.specs.Histories.{Run, then}
 use Rattle.broker.specs.declared.broker.Broker.{Broker}
@@ -15,15 +16,19 @@ use Rattle.session.specs.declared.printed.Printed.{Printed}
 use Rattle.session.specs.Session.{call_of, Performs, LinePerforms, Performed, Judged}
 use Rattle.session.specs.Session as session
 
-module _ {P : Type 0} {g : Ghosts P} (before after : Broker P g) where
-  -- an event that makes one call
-  pub one_call : {x : Call} {a : Result Answer Refusal} {e : Event} {r : Result Printed Refusal} {calls : List history.Event} →
-      (Step (meaning before) (view before) x a (view after) → Performs (meaning before) (view before) e r calls (view after)) →
-      Stepped before x a after → Performed before e r after
-  one_call {calls = calls} prints s = record { performs = (calls, prints s.step); price = s.price }
+-- an event whose call is refused
+pub refused_call : {P : Type 0} {g : Ghosts P} {before after : Broker P g} {e : Event} {r : Refusal} → Stepped before (call_of e) (Err r) after → Performed before e (Err r) after
+refused_call s = record { performs = (_, session.refused s.step); price = s.price }
 
-  pub refused_call : (e : Event) (r : Refusal) → Stepped before (call_of e) (Err r) after → Performed before e (Err r) after
-  refused_call e r s = one_call (λ t. session.refused {e = e} t) s
+-- an event that makes one call; what is printed of it, where the call is accepted, a closure makes, of which R is known
+pub performed : {P T : Type 0} {g : Ghosts P} {before after : Broker P g} {e : Event} {word : T → Answer} {print : T → Printed} {q : Result Printed Refusal} {R : T → Printed → Type 0} (r : Result T Refusal) →
+    ((t : T) → Step (meaning before) (view before) (call_of e) (Ok (word t)) (view after) →
+    Performs (meaning before) (view before) e (Ok (print t)) (history.event (call_of e) (Ok (word t)) (view after) ∷ []) (view after)) →
+    ((t : T) (p : Printed) → R t p → p ≡ print t) →
+    Stepped before (call_of e) (answered word r) after → MatchResult r (λ t. IsOkAnd q (R t)) (λ y. q ≡ Err y) → Performed before e q after
+performed {q = Ok p} (Ok t) prints told s h = rw (told t p h) (record { performs = (_, prints t s.step); price = s.price })
+performed {q = Err y} (Ok t) prints told s h = absurd h
+performed (Err y) prints told s h = rw h (refused_call s)
 
 -- calls that a line made, after those that led to the broker
 performs_run : (m : Meaning) (o b : rules.Broker) (h : List history.Event) (e : Event) (r : Result Printed Refusal) (calls : List history.Event) (d : rules.Broker) → Run m o h b → Performs m b e r calls d → Run m o (calls ++ h) d
@@ -40,7 +45,7 @@ line_run : (m : Meaning) (o b : rules.Broker) (h : List history.Event) (text : L
 line_run m o b h text r calls d run (session.performed {e = e} v p) = performs_run m o b h e r calls d run p
 line_run m o b h text r calls d run (session.malformed v) = run
 
-module _ {P : Type 0} {g : Ghosts P} (before after : Broker P g) (text : List ℕ) where
+module _ {P : Type 0} {g : Ghosts P} {text : List ℕ} {before after : Broker P g} where
   judged : (r : Result Printed Refusal) →
       ((whole : List ℕ) → take 80 whole ≡ take 80 text → (calls : List history.Event) × LinePerforms (meaning before) (view before) whole r calls (view after)) →
       after.price ≡ before.price → Judged before text r after
@@ -52,9 +57,9 @@ module _ {P : Type 0} {g : Ghosts P} (before after : Broker P g) (text : List �
       }
 
   -- a line that says an event
-  pub event_judged : (e : Event) (r : Result Printed Refusal) → ((whole : List ℕ) → take 80 whole ≡ take 80 text → Verdict whole (Ok e)) → Performed before e r after → Judged before text r after
-  event_judged e r verdict p = judged r (λ whole same. (p.performs.0, session.performed (verdict whole same) p.performs.1)) p.price
+  pub event_judged : {e : Event} {r : Result Printed Refusal} → ((whole : List ℕ) → take 80 whole ≡ take 80 text → Verdict whole (Ok e)) → Performed before e r after → Judged before text r after
+  event_judged {r = r} verdict p = judged r (λ whole same. (p.performs.0, session.performed (verdict whole same) p.performs.1)) p.price
 
 -- a malformed line
-pub fault_judged : {P : Type 0} {g : Ghosts P} (b : Broker P g) (text : List ℕ) (r : Refusal) → ((whole : List ℕ) → take 80 whole ≡ take 80 text → Verdict whole (Err r)) → Judged b text (Err r) b
-fault_judged b text r verdict = judged b b text (Err r) (λ whole same. ([], session.malformed (verdict whole same))) refl
+pub fault_judged : {P : Type 0} {g : Ghosts P} {b : Broker P g} {text : List ℕ} {r : Refusal} → ((whole : List ℕ) → take 80 whole ≡ take 80 text → Verdict whole (Err r)) → Judged b text (Err r) b
+fault_judged {r = r} verdict = judged (Err r) (λ whole same. ([], session.malformed (verdict whole same))) refl

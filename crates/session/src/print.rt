@@ -24,13 +24,13 @@ pub fn print_all<P: Price, W: Write>(run: &mut Run<P>, out: &mut W) -> io::Resul
 /// Reads an input, performs it on a new broker under a price, and prints what comes of each line, and the end report.
 pub fn serve<P: Price + Drop, R: Read + Drop, W: Write>(
     price: P,
-    heap: Global,
+    alloc: Global,
     from: R,
     out: &mut W,
 ) -> io::Result<()>
     ensures { OnOk result ((input : List ℕ) × IfSome (R.remaining from) (λ bytes. input ≡ take 16_777_216 bytes) × Serves (P.Price.meaning price) input (W.contents out.old) (W.contents out.new)) }
 {
-    let input = read_input(heap, from)?;
+    let input = read_input(alloc, from)?;
     print_all(&mut Run::new(price, &input), out)?;
     out.flush()
 }

@@ -1,4 +1,6 @@
 //! The parts of printed lines: words with a number or a quote behind them.
+#![tactic(auto, using(crate::proofs::PrintedPieces::behind, crate::proofs::PrintedPieces::decimal_short))]
+
 ghost use Rattle.std.specs.Prelude.{◌≡◌, ◌≤◌, ◌++◌, length, decimal};
 ghost use Rattle.session.specs.Printed.{field, priced, quoted};
 ghost use Rattle.text.specs.Texts.{cut, spelt};

@@ -1,8 +1,9 @@
 //! What is printed of an ask.
-ghost use Rattle.std.specs.Prelude.{◌≤◌};
+ghost use Rattle.std.specs.Prelude.{◌≡◌};
 ghost use Rattle.events.specs.declared.event.Event.TheVariants.{Ask};
+ghost use Rattle.broker.specs.View.{meaning, view};
 ghost use Rattle.session.specs.Session.{Performed};
-ghost use Rattle.session.specs.Asks.{Priced, LostBy, TakenFrom, GrantOf};
+ghost use Rattle.session.specs.Asks.{HasPrice, price_with, lost_by, Lost, taken_from, grant_after};
 
 use super::Session;
 use crate::printed::{Grant, Printed, Taken};
@@ -10,45 +11,45 @@ use price::Price;
 use rules::{Quote, Refusal, SlipNumbers};
 
 impl<P: Price> Session<P> {
-    // The price of a client at its holding and a frame more, or none.
-    fn price(&self, client: u32, more: u32) -> Result<Quote, Refusal>
-        requires { more ≤ 1 }
-        ensures { Priced self.now.broker client more result }
+    // The price of a client at its holding and so many frames more.
+    fn price(&self, client: u32, more: u32) -> Quote
+        requires { HasPrice (view self.now.broker) client more }
+        ensures { result ≡ price_with (meaning self.now.broker) (view self.now.broker) client more }
     {
-        let holding = self.broker.holding(client)?;
-        self.broker.price_at(client, holding + more)
+        let holding = self.broker.holding(client).unwrap();
+        self.broker.price_at(client, holding + more).unwrap()
     }
 
     // A client that lost a frame, and what it paid before.
-    fn loser(&self, former: u32) -> Result<Taken, Refusal>
-        ensures { LostBy self.now.broker former result }
+    fn loser(&self, former: u32) -> Taken
+        requires { HasPrice (view self.now.broker) former 1 }
+        ensures { result ≡ lost_by (meaning self.now.broker) (view self.now.broker) former }
     {
-        let over = self.price(former, 1)?;
-        Ok(Taken { from: former, over })
+        Taken {
+            from: former,
+            over: self.price(former, 1),
+        }
     }
 
     // From whom a frame was taken: nobody where it was free.
-    fn taken(&self, former: u32) -> Result<Option<Taken>, Refusal>
-        ensures { TakenFrom self.now.broker former result }
+    fn taken(&self, former: u32) -> Option<Taken>
+        requires { Lost (view self.now.broker) former }
+        ensures { result ≡ taken_from (meaning self.now.broker) (view self.now.broker) former }
     {
-        if former == 0 {
-            return Ok(None);
-        }
-        self.loser(former).map(Some)
+        (former != 0).then(|| self.loser(former))
     }
 
     // What is printed of a slip just granted.
-    fn grant(&self, slip: SlipNumbers) -> Result<Grant, Refusal>
-        ensures { GrantOf self.now.broker slip result }
+    fn grant(&self, slip: SlipNumbers) -> Grant
+        requires { HasPrice (view self.now.broker) slip.client 0 × Lost (view self.now.broker) slip.former }
+        ensures { result ≡ grant_after (meaning self.now.broker) (view self.now.broker) slip }
     {
-        let paying = self.price(slip.client, 0)?;
-        let taken = self.taken(slip.former)?;
-        Ok(Grant {
+        Grant {
             client: slip.client,
             frame: slip.frame,
-            paying,
-            taken,
-        })
+            paying: self.price(slip.client, 0),
+            taken: self.taken(slip.former),
+        }
     }
 
     // Asks for a frame, and delivers the slip at once.
@@ -58,6 +59,6 @@ impl<P: Price> Session<P> {
         let slip = self.broker.ask(client)?;
         let grant = self.grant(slip.numbers());
         self.broker.deliver(slip).unwrap();
-        grant.map(Printed::Grant)
+        Ok(Printed::Grant(grant))
     }
 }

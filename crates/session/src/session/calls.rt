@@ -12,16 +12,16 @@ impl<P: Price> Session<P> {
     pub(crate) fn start(&mut self, unit: u32, frames: u32) -> Result<Printed, Refusal>
         ensures { Performed self.old.broker (Start unit frames) result self.new.broker }
     {
-        self.broker.start(unit, frames)?;
-        Ok(Printed::Pool { unit, frames })
+        self.broker
+            .start(unit, frames)
+            .map(|()| Printed::Pool { unit, frames })
     }
 
     // Admits a client.
     pub(crate) fn admit(&mut self, asked: Admission) -> Result<Printed, Refusal>
         ensures { Performed self.old.broker (Admit asked) result self.new.broker }
     {
-        self.broker.admit(asked)?;
-        Ok(Printed::Admit {
+        self.broker.admit(asked).map(|()| Printed::Admit {
             client: asked.client,
         })
     }
@@ -30,31 +30,35 @@ impl<P: Price> Session<P> {
     pub(crate) fn hand_back(&mut self, client: u32) -> Result<Printed, Refusal>
         ensures { Performed self.old.broker (HandBack client) result self.new.broker }
     {
-        let frame = self.broker.hand_back(client)?;
-        Ok(Printed::Back { client, frame })
+        self.broker
+            .hand_back(client)
+            .map(|frame| Printed::Back { client, frame })
     }
 
     // Lets a client go.
     pub(crate) fn leave(&mut self, client: u32) -> Result<Printed, Refusal>
         ensures { Performed self.old.broker (Leave client) result self.new.broker }
     {
-        let frames = self.broker.leave(client)?;
-        Ok(Printed::Leave { client, frames })
+        self.broker
+            .leave(client)
+            .map(|frames| Printed::Leave { client, frames })
     }
 
     // Notes an estimate.
     pub(crate) fn estimate(&mut self, client: u32, estimate: Estimate) -> Result<Printed, Refusal>
         ensures { Performed self.old.broker (Estimated client estimate) result self.new.broker }
     {
-        self.broker.estimate(client, estimate)?;
-        Ok(Printed::Estimate { client })
+        self.broker
+            .estimate(client, estimate)
+            .map(|()| Printed::Estimate { client })
     }
 
     // Sets the clock.
     pub(crate) fn clock(&mut self, tick: u32) -> Result<Printed, Refusal>
         ensures { Performed self.old.broker (Clock tick) result self.new.broker }
     {
-        let ended = self.broker.clock(tick)?;
-        Ok(Printed::Clock { tick, ended })
+        self.broker
+            .clock(tick)
+            .map(|ended| Printed::Clock { tick, ended })
     }
 }

@@ -5,7 +5,7 @@ use Rattle.session.proofs.session.Session.judge.Goals as goal
 pub returns-in_err-event : goal.returns-in_err-event
 returns-in_err-event g c =
     let p = err_from_is_err_and c.from_residual.result c.from_residual.ensures.1 in
-    rw (p.1, p.2) (fault_judged c.args.self.now.broker c.args.line.now _ c.in_err-event.ensures.decided)
+    rw (p.1, p.2) (fault_judged c.in_err-event.ensures.decided)
 
 pub returns : goal.returns
-returns g c = event_judged c.args.self.now.broker c.perform.new.self.broker c.args.line.now c.in_ok-event.event _ c.in_ok-event.ensures.decided c.perform.ensures
+returns g c = event_judged c.in_ok-event.ensures.decided c.perform.ensures
