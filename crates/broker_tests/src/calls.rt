@@ -82,12 +82,7 @@ fn questions<P: Price>(broker: &Broker<P>) -> Shown {
     Shown {
         free: broker.free_frames(),
         lowest: broker.lowest_payer(),
-        clients: [
-            of_client(broker, 0),
-            of_client(broker, 1),
-            of_client(broker, 2),
-            of_client(broker, 256),
-        ],
+        clients: [0, 1, 2, 256].map(|client| of_client(broker, client)),
     }
 }
 

@@ -103,7 +103,7 @@ fn terms_of_an_admission(rt: HostRuntime) {
         (2, Some(256)),
         (255, Some(256)),
         (256, None),
-        (4_294_967_295, None),
+        (u32::MAX, None),
     ] {
         assert_eq!(rt; broker.next_client(after), next);
     }
@@ -139,20 +139,20 @@ fn ends_of_estimates_and_ticks(rt: HostRuntime) {
         &mut broker,
         &[
             (estimate(1, 4, 8), Answer::Done),
-            (estimate(256, 0, 4_294_967_295), Answer::Done),
+            (estimate(256, 0, u32::MAX), Answer::Done),
             (clock(7), Answer::Count(0)),
             (clock(8), Answer::Count(1)),
-            (clock(4_294_967_294), Answer::Count(0)),
-            (estimate(1, 0, 4_294_967_295), Answer::Done),
-            (clock(4_294_967_295), Answer::Count(2)),
-            (clock(4_294_967_295), Answer::Count(0)),
+            (clock(u32::MAX - 1), Answer::Count(0)),
+            (estimate(1, 0, u32::MAX), Answer::Done),
+            (clock(u32::MAX), Answer::Count(2)),
+            (clock(u32::MAX), Answer::Count(0)),
         ],
     );
     refuses(
         &rt,
         &mut broker,
         &[
-            (estimate(1, 0, 4_294_967_295), Refusal::EndNotAfterClock),
+            (estimate(1, 0, u32::MAX), Refusal::EndNotAfterClock),
             (clock(0), Refusal::TickBeforeClock),
         ],
     );

@@ -7,21 +7,19 @@ use rules::{Answer, Quote, Refusal};
 use std::process::Abort;
 use std::test::Fail;
 
-/// A free frame that a client gets, and the client's price with it.
+/// A frame that a client gets, and the client's price with it.
 #[derive(Drop)]
-struct Free {
+struct Grant {
     client: u32,
     frame: u32,
     paying: Quote,
+    taken: Option<Taken>,
 }
 
-/// Another client's frame that a client gets, the client's price with it, and the former owner's price before the loss.
-#[derive(Drop)]
+/// The client that a frame is taken from, and its price before the loss.
+#[derive(Clone, Copy, Drop)]
 struct Taken {
-    client: u32,
-    frame: u32,
-    former: u32,
-    paying: Quote,
+    from: u32,
     over: Quote,
 }
 
@@ -33,36 +31,22 @@ struct Held {
     price: Quote,
 }
 
+// Kept: price_tests has the same: a crate of tests serves no other, and one in `rules` would serve tests alone.
 fn quote(class: u8, top: u32, bottom: u32) -> Quote {
     Quote { class, top, bottom }
 }
 
-/// Makes each ask of a client that gets a free frame, and compares the frame and the client's price with it.
-fn grants_free<P: Price>(
-    rt: &impl Abort,
-    broker: &mut Broker<P>,
-    rows: &[Free],
-) -> Result<(), Fail> {
+/// Makes the ask of each row, and compares the frame and its former owner, the client's price with the frame and the
+/// owner's price before the loss.
+fn grants<P: Price>(rt: &impl Abort, broker: &mut Broker<P>, rows: &[Grant]) -> Result<(), Fail> {
     for row in rows {
-        asks(rt, broker, &[(row.client, free(row.frame))]);
-        let holding = broker.holding(row.client)?;
-        assert_eq!(rt; broker.price_at(row.client, holding), Ok(row.paying));
-    }
-    Ok(())
-}
-
-/// Makes each ask of a client that gets another's frame, and compares the frame and its former owner, the client's price
-/// with the frame and the owner's price before the loss.
-fn grants_from<P: Price>(
-    rt: &impl Abort,
-    broker: &mut Broker<P>,
-    rows: &[Taken],
-) -> Result<(), Fail> {
-    for row in rows {
-        assert_eq!(rt; broker.lowest_payer(), Some(row.former));
-        let held = broker.holding(row.former)?;
-        assert_eq!(rt; broker.price_at(row.former, held), Ok(row.over));
-        asks(rt, broker, &[(row.client, taken(row.frame, row.former))]);
+        if let Some(Taken { from, over }) = row.taken {
+            assert_eq!(rt; broker.lowest_payer(), Some(from));
+            let held = broker.holding(from)?;
+            assert_eq!(rt; broker.price_at(from, held), Ok(over));
+        }
+        let former = row.taken.map_or(0, |taken| taken.from);
+        asks(rt, broker, &[(row.client, taken(row.frame, former))]);
         let holding = broker.holding(row.client)?;
         assert_eq!(rt; broker.price_at(row.client, holding), Ok(row.paying));
     }
@@ -89,44 +73,45 @@ fn session_under_the_share_price(rt: HostRuntime) -> Result<(), Fail> {
             (admit(2, 100, 0, 1, 3), Answer::Done),
         ],
     );
-    grants_free(
+    grants(
         &rt,
         &mut broker,
         &[
-            Free {
+            Grant {
                 client: 2,
                 frame: 1,
                 paying: quote(0, 100, 1),
+                taken: None,
             },
-            Free {
+            Grant {
                 client: 2,
                 frame: 2,
                 paying: quote(0, 100, 2),
+                taken: None,
             },
-            Free {
+            Grant {
                 client: 2,
                 frame: 3,
                 paying: quote(0, 100, 3),
+                taken: None,
             },
-        ],
-    )?;
-    grants_from(
-        &rt,
-        &mut broker,
-        &[
-            Taken {
+            Grant {
                 client: 1,
                 frame: 3,
-                former: 2,
                 paying: quote(0, 300, 1),
-                over: quote(0, 100, 3),
+                taken: Some(Taken {
+                    from: 2,
+                    over: quote(0, 100, 3),
+                }),
             },
-            Taken {
+            Grant {
                 client: 1,
                 frame: 2,
-                former: 2,
                 paying: quote(0, 300, 2),
-                over: quote(0, 100, 2),
+                taken: Some(Taken {
+                    from: 2,
+                    over: quote(0, 100, 2),
+                }),
             },
         ],
     )?;
@@ -180,49 +165,51 @@ fn runs_taxed_session<P: Price>(rt: &impl Abort, broker: &mut Broker<P>) -> Resu
             (estimate(1, 1, 10), Answer::Done),
         ],
     );
-    grants_free(
+    grants(
         rt,
         broker,
         &[
-            Free {
+            Grant {
                 client: 1,
                 frame: 1,
                 paying: quote(0, 2500, 25),
+                taken: None,
             },
-            Free {
+            Grant {
                 client: 1,
                 frame: 2,
                 paying: quote(0, 2500, 125),
+                taken: None,
             },
-            Free {
+            Grant {
                 client: 2,
                 frame: 3,
                 paying: quote(0, 5000, 25),
+                taken: None,
             },
-            Free {
+            Grant {
                 client: 2,
                 frame: 4,
                 paying: quote(0, 5000, 50),
+                taken: None,
             },
-        ],
-    )?;
-    grants_from(
-        rt,
-        broker,
-        &[
-            Taken {
+            Grant {
                 client: 2,
                 frame: 2,
-                former: 1,
                 paying: quote(0, 5000, 75),
-                over: quote(0, 2500, 125),
+                taken: Some(Taken {
+                    from: 1,
+                    over: quote(0, 2500, 125),
+                }),
             },
-            Taken {
+            Grant {
                 client: 3,
                 frame: 2,
-                former: 2,
                 paying: quote(2, 1250, 25),
-                over: quote(0, 5000, 75),
+                taken: Some(Taken {
+                    from: 2,
+                    over: quote(0, 5000, 75),
+                }),
             },
         ],
     )?;

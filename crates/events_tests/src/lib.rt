@@ -64,15 +64,15 @@ mod tests {
             },
             b"E 2 1 90",
         ),
-        (Event::Clock { tick: 4294967295 }, b"T 4294967295"),
+        (Event::Clock { tick: u32::MAX }, b"T 4294967295"),
         (Event::Ask { client: 10 }, b"Q 10"),
         (
             Event::Admit(Admission {
-                client: 4294967295,
-                shares: 4294967295,
-                class: 4294967295,
-                minimum: 4294967295,
-                maximum: 4294967295,
+                client: u32::MAX,
+                shares: u32::MAX,
+                class: u32::MAX,
+                minimum: u32::MAX,
+                maximum: u32::MAX,
             }),
             b"A 4294967295 4294967295 4294967295 4294967295 4294967295",
         ),
@@ -85,7 +85,7 @@ mod tests {
             let mut out = [b'#'; 60];
             let n = event.write(&mut out)?;
             assert!(rt; n <= 60);
-            assert_eq!(rt; &out[0..n], line);
+            assert_eq!(rt; &out[..n], line);
             assert!(rt; out[n..].iter().all(|b| *b == b'#'));
         }
         Ok(())
@@ -98,9 +98,9 @@ mod tests {
             Event::Start { unit: 7, frames: 3 }.write(&mut out),
             Err(Refusal::BufferTooShort)
         );
-        assert_eq!(rt; &out[0..4], b"####".as_slice());
+        assert_eq!(rt; &out[..4], b"####".as_slice());
         assert_eq!(rt; Event::Ask { client: 12 }.write(&mut out), Ok(4));
-        assert_eq!(rt; &out[0..4], b"Q 12".as_slice());
+        assert_eq!(rt; &out[..4], b"Q 12".as_slice());
     }
 
     #[test]
@@ -123,10 +123,10 @@ mod tests {
     #[test]
     fn eighty_bytes_of_a_line(rt: HostRuntime) {
         let input = [b'x'; 81];
-        let mut whole = Lines::new(&input[0..80]);
-        assert_eq!(rt; whole.next(), Some(&input[0..80]));
-        let mut cut = Lines::new(&input[0..81]);
-        assert_eq!(rt; cut.next(), Some(&input[0..80]));
+        let mut whole = Lines::new(&input[..80]);
+        assert_eq!(rt; whole.next(), Some(&input[..80]));
+        let mut cut = Lines::new(&input[..81]);
+        assert_eq!(rt; cut.next(), Some(&input[..80]));
         assert_eq!(rt; cut.next(), None);
     }
 
@@ -142,14 +142,14 @@ mod tests {
         };
         let n = malformed.write(&mut out)?;
         assert!(rt; n <= 32);
-        assert_eq!(rt; &out[0..n], b"line 10 text 3 at 3".as_slice());
+        assert_eq!(rt; &out[..n], b"line 10 text 3 at 3".as_slice());
         let outbid = LineFault {
             line: 9,
             refusal: Refusal::Outbid,
         };
         let m = outbid.write(&mut out)?;
         assert!(rt; m <= 32);
-        assert_eq!(rt; &out[0..m], b"line 9 refused 18".as_slice());
+        assert_eq!(rt; &out[..m], b"line 9 refused 18".as_slice());
         Ok(())
     }
 }

@@ -1,5 +1,5 @@
 //! Prices that are lent, as a price over a table that several brokers read will be.
-use crate::prices::{tells, told};
+use crate::prices::{quote, tells};
 use price::{ClassPrice, Price, Ranked, SharePrice, TaxedPrice, ValidOffer};
 use std::test::Fail;
 
@@ -17,11 +17,11 @@ fn two_lent_prices_tell_what_the_one_tells(rt: HostRuntime) -> Result<(), Fail> 
 
 /// The highest bottom that any of these prices tells of an offer.
 fn highest_bottom(prices: &[&dyn Price], offer: ValidOffer) -> u32 {
-    let mut highest = 0;
-    for price in prices {
-        highest = highest.max(price.quote(offer).bottom);
-    }
-    highest
+    prices
+        .iter()
+        .map(|price| price.quote(offer).bottom)
+        .max()
+        .unwrap_or(0)
 }
 
 #[test]
@@ -30,9 +30,9 @@ fn prices_of_three_types_stand_in_one_list(rt: HostRuntime) -> Result<(), Fail> 
     let classed = ClassPrice::new(SharePrice);
     let prices: [&dyn Price; 3] = [&SharePrice, &taxed, &classed];
     let offer = ValidOffer::new(100, 3, Some(2), 4)?;
-    tells(&rt, &prices[0], &[(offer, told(0, 100, 4))]);
-    tells(&rt, &prices[1], &[(offer, told(0, 2500, 250))]);
-    tells(&rt, &prices[2], &[(offer, told(3, 100, 4))]);
+    tells(&rt, &prices[0], &[(offer, quote(0, 100, 4))]);
+    tells(&rt, &prices[1], &[(offer, quote(0, 2500, 250))]);
+    tells(&rt, &prices[2], &[(offer, quote(3, 100, 4))]);
     assert_eq!(rt; highest_bottom(&prices, offer), 250);
     let bids = prices.map(|price| Ranked::new(&price, 1, 0, offer));
     assert!(rt; bids[2].ranks_above(&bids[0]));

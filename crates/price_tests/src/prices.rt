@@ -14,7 +14,7 @@ pub(crate) fn tells<P: Price>(rt: &impl Abort, price: &P, examples: &[(ValidOffe
 }
 
 /// A quote of this class, top and bottom.
-pub(crate) fn told(class: u8, top: u32, bottom: u32) -> Quote {
+pub(crate) fn quote(class: u8, top: u32, bottom: u32) -> Quote {
     Quote { class, top, bottom }
 }
 
@@ -22,18 +22,18 @@ pub(crate) fn told(class: u8, top: u32, bottom: u32) -> Quote {
 fn prices_tell_the_worked_examples(rt: HostRuntime) -> Result<(), Fail> {
     let offer = ValidOffer::new(100, 3, None, 4)?;
     let with_idle_frames = ValidOffer::new(100, 3, Some(2), 4)?;
-    tells(&rt, &SharePrice, &[(offer, told(0, 100, 4))]);
+    tells(&rt, &SharePrice, &[(offer, quote(0, 100, 4))]);
     tells(
         &rt,
         &ClassPrice::new(SharePrice),
-        &[(offer, told(3, 100, 4))],
+        &[(offer, quote(3, 100, 4))],
     );
     tells(
         &rt,
         &TaxedPrice::new(75)?,
         &[
-            (with_idle_frames, told(0, 2500, 250)),
-            (offer, told(0, 2500, 100)),
+            (with_idle_frames, quote(0, 2500, 250)),
+            (offer, quote(0, 2500, 100)),
         ],
     );
     Ok(())
@@ -42,24 +42,27 @@ fn prices_tell_the_worked_examples(rt: HostRuntime) -> Result<(), Fail> {
 #[test]
 fn prices_tell_offers_at_the_ends_of_the_ranges(rt: HostRuntime) -> Result<(), Fail> {
     let least = ValidOffer::new(1, 0, Some(0), 1)?;
-    let most = ValidOffer::new(1_000_000, 9, Some(4_294_967_295), 4_096)?;
+    let most = ValidOffer::new(1_000_000, 9, Some(u32::MAX), 4_096)?;
     tells(
         &rt,
         &SharePrice,
-        &[(least, told(0, 1, 1)), (most, told(0, 1_000_000, 4_096))],
+        &[(least, quote(0, 1, 1)), (most, quote(0, 1_000_000, 4_096))],
     );
     tells(
         &rt,
         &TaxedPrice::new(0)?,
         &[
-            (least, told(0, 100, 100)),
-            (most, told(0, 100_000_000, 409_600)),
+            (least, quote(0, 100, 100)),
+            (most, quote(0, 100_000_000, 409_600)),
         ],
     );
     tells(
         &rt,
         &ClassPrice::new(TaxedPrice::new(99)?),
-        &[(least, told(0, 1, 100)), (most, told(9, 1_000_000, 4_096))],
+        &[
+            (least, quote(0, 1, 100)),
+            (most, quote(9, 1_000_000, 4_096)),
+        ],
     );
     Ok(())
 }
@@ -69,8 +72,8 @@ fn price_of_two_tells_what_the_one_tells_that_it_is(rt: HostRuntime) -> Result<(
     let offer = ValidOffer::new(100, 3, Some(2), 4)?;
     let share: Either<SharePrice, TaxedPrice> = Left(SharePrice);
     let taxed: Either<SharePrice, TaxedPrice> = Right(TaxedPrice::new(75)?);
-    assert_eq!(rt; share.quote(offer), told(0, 100, 4));
-    assert_eq!(rt; taxed.quote(offer), told(0, 2500, 250));
+    assert_eq!(rt; share.quote(offer), quote(0, 100, 4));
+    assert_eq!(rt; taxed.quote(offer), quote(0, 2500, 250));
     Ok(())
 }
 
@@ -94,24 +97,21 @@ fn offers_out_of_range_are_refused_in_order(rt: HostRuntime) {
 #[test]
 fn bids_rank_by_minimum_then_exact_fraction_then_client(rt: HostRuntime) -> Result<(), Fail> {
     let price: Either<SharePrice, TaxedPrice> = Left(SharePrice);
-    // client, minimum, shares and count, each ranked above the next
-    let rows = [
-        (9, 4, 1, 4),
-        (8, 0, 333_334, 3),
-        (1, 0, 111_111, 1),
-        (2, 0, 222_222, 2),
+    let bid = |client: u32, minimum: u32, shares: u32, count: u32| -> Result<Ranked, Refusal> {
+        let offer = ValidOffer::new(shares, 0, None, count)?;
+        Ok(Ranked::new(&price, client, minimum, offer))
+    };
+    // each ranks above the next
+    let bids = [
+        bid(9, 9, 1, 1)?,
+        bid(9, 4, 1, 4)?,
+        bid(8, 0, 333_334, 3)?,
+        bid(1, 0, 111_111, 1)?,
+        bid(2, 0, 222_222, 2)?,
     ];
-    let mut last = Ranked::new(&price, 9, 9, ValidOffer::new(1, 0, None, 1)?);
-    for (client, minimum, shares, count) in rows {
-        let next = Ranked::new(
-            &price,
-            client,
-            minimum,
-            ValidOffer::new(shares, 0, None, count)?,
-        );
-        assert!(rt; last.ranks_above(&next));
-        assert!(rt; next.no_later(&last) && !last.no_later(&next));
-        last = next;
+    for (above, below) in bids.iter().zip(&bids[1..]) {
+        assert!(rt; above.ranks_above(below));
+        assert!(rt; below.no_later(above) && !above.no_later(below));
     }
     Ok(())
 }
@@ -131,7 +131,7 @@ fn sheets_are_filled_whole_or_left(rt: HostRuntime) -> Result<(), Fail> {
         tariff_sheet(99, Some(0), &mut longer),
         Err(Refusal::CountOutOfRange)
     );
-    tariff_sheet(99, Some(0), &mut longer[0..4_096])?;
+    tariff_sheet(99, Some(0), &mut longer[..4_096])?;
     assert_eq!(rt; longer[4_095], 409_600);
     assert_eq!(rt; longer[4_096], 7);
     Ok(())

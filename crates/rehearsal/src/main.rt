@@ -8,35 +8,11 @@ mod week;
 
 use broker::Broker;
 use either::{Left, Right};
-use play::{play_all, play_passage, settle};
-use price::{ClassPrice, Price, SharePrice, TaxedPrice};
-use rules::Call;
+use play::Play;
+use price::{ClassPrice, SharePrice, TaxedPrice};
 use show::show_rest;
-use std::io;
 use std::io::{BufWriter, Write};
 use week::{friday, monday, tuesday, wednesday};
-
-/// What is played on a day, before the clients ask until no broker grants anything.
-#[derive(Drop)]
-enum Day<'a> {
-    Calls(&'a [Call]),
-    Passage,
-}
-
-/// Plays a day.
-fn play_day<P: Price, W: Write>(
-    brokers: &mut [Broker<P>],
-    name: &str,
-    day: &Day<'_>,
-    out: &mut W,
-) -> io::Result<()> {
-    writeln!(out, "{name}")?;
-    match day {
-        Day::Calls(calls) => play_all(brokers, calls, out)?,
-        Day::Passage => play_passage(brokers, out)?,
-    }
-    settle(brokers, out)
-}
 
 fn main(rt: HostRuntime) -> anyhow::Result<()> {
     let taxed = TaxedPrice::new(75).unwrap();
@@ -52,16 +28,15 @@ fn main(rt: HostRuntime) -> anyhow::Result<()> {
         out,
         "call: under the share price; under the taxed price at 75; by class, then taxed at 75"
     )?;
-    let week = [
-        ("monday", Day::Calls(&monday())),
-        ("tuesday", Day::Calls(&tuesday())),
-        ("wednesday", Day::Calls(&wednesday())),
-        ("thursday", Day::Passage),
-        ("friday", Day::Calls(&friday())),
-    ];
-    for (name, day) in &week {
-        play_day(&mut brokers, name, day, &mut out)?;
-    }
+    let mut play = Play {
+        brokers: &mut brokers,
+        out: &mut out,
+    };
+    play.day("monday", &monday())?;
+    play.day("tuesday", &tuesday())?;
+    play.day("wednesday", &wednesday())?;
+    play.day_of_passage("thursday")?;
+    play.day("friday", &friday())?;
     for (name, broker) in ["share", "taxed", "class"].iter().zip(&brokers) {
         show_rest(name, broker, &mut out)?;
     }

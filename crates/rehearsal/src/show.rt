@@ -1,9 +1,10 @@
 //! What is printed.
+use crate::play::Answers;
 use broker::Broker;
+use family::Told;
 use price::Price;
-use rules::{Admission, Answer, Call, Estimate, Quote, Refusal};
+use rules::{Admission, Answer, Call, Estimate, Quote};
 use std::io::Write;
-use std::iter::successors;
 use std::{fmt, io};
 
 /// A call, as it is printed.
@@ -41,9 +42,9 @@ impl fmt::Display for Asked {
 
 /// What a broker answered, as it is printed: a dash where it was not called.
 #[derive(Drop)]
-struct Told(Option<Result<Answer, Refusal>>);
+struct Shown(Told);
 
-impl fmt::Display for Told {
+impl fmt::Display for Shown {
     fn fmt<W: fmt::Write>(&self, f: &mut fmt::Formatter<W>) -> fmt::Result {
         match self.0 {
             None => write!(f, "-"),
@@ -60,31 +61,27 @@ impl fmt::Display for Told {
     }
 }
 
-/// A price, as it is printed.
+/// A price, as it is printed: a dash where there is none.
 #[derive(Drop)]
-struct Priced(Quote);
+struct Priced(Option<Quote>);
 
 impl fmt::Display for Priced {
     fn fmt<W: fmt::Write>(&self, f: &mut fmt::Formatter<W>) -> fmt::Result {
-        let Quote { class, top, bottom } = self.0;
-        write!(f, "{class}:{top}/{bottom}")
+        match self.0 {
+            None => write!(f, "-"),
+            Some(Quote { class, top, bottom }) => write!(f, "{class}:{top}/{bottom}"),
+        }
     }
 }
 
 /// Prints what was called, and the answers of all brokers behind it.
 pub fn show_answers<C: fmt::Display, W: Write>(
     called: &C,
-    answers: &[Option<Result<Answer, Refusal>>],
+    answers: &Answers,
     out: &mut W,
 ) -> io::Result<()> {
-    write!(out, "  {called}")?;
-    let mut between = ": ";
-    for answer in answers {
-        let told = Told(*answer);
-        write!(out, "{between}{told}")?;
-        between = "; ";
-    }
-    writeln!(out, "")
+    let [share, taxed, class] = answers.map(Shown);
+    writeln!(out, "  {called}: {share}; {taxed}; {class}")
 }
 
 /// Prints what a broker has come to: the free frames, and what each client holds and pays.
@@ -93,18 +90,11 @@ pub fn show_rest<P: Price, W: Write>(
     broker: &Broker<P>,
     out: &mut W,
 ) -> io::Result<()> {
-    let free = broker.free_frames();
-    writeln!(out, "{name} rests with {free} free")?;
-    for client in successors(broker.next_client(0), |last| broker.next_client(*last)).take(256) {
+    writeln!(out, "{name} rests with {} free", broker.free_frames())?;
+    for client in 1..=256 {
         if let Ok(holding) = broker.holding(client) {
-            write!(out, "  client {client} holds {holding} price ")?;
-            match broker.price_at(client, holding) {
-                Ok(quote) => {
-                    let price = Priced(quote);
-                    writeln!(out, "{price}")?;
-                }
-                Err(_) => writeln!(out, "-")?,
-            }
+            let price = Priced(broker.price_at(client, holding).ok());
+            writeln!(out, "  client {client} holds {holding} price {price}")?;
         }
     }
     Ok(())

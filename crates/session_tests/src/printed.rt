@@ -15,8 +15,8 @@ const LOW: Quote = Quote {
 
 const LARGEST: Quote = Quote {
     class: 255,
-    top: 4294967295,
-    bottom: 4294967295,
+    top: u32::MAX,
+    bottom: u32::MAX,
 };
 
 // Whether a value is printed as this line, and all behind the line stays as it was.
@@ -24,7 +24,7 @@ pub(crate) fn prints(rt: &impl Abort, value: Printed, line: &[u8]) -> Result<(),
     let mut out = [b'#'; 128];
     let n = value.write(&mut out)?;
     assert!(rt; n <= 128);
-    assert_eq!(rt; &out[0..n], line);
+    assert_eq!(rt; &out[..n], line);
     assert!(rt; out[n..].iter().all(|b| *b == b'#'));
     Ok(())
 }
@@ -120,11 +120,11 @@ const PRICED: [(Printed, &[u8]); 5] = [
     ),
     (
         Printed::Grant(Grant {
-            client: 4294967295,
-            frame: 4294967295,
+            client: u32::MAX,
+            frame: u32::MAX,
             paying: LARGEST,
             taken: Some(Taken {
-                from: 4294967295,
+                from: u32::MAX,
                 over: LARGEST,
             }),
         }),

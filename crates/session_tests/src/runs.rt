@@ -108,7 +108,7 @@ fn lines_by_number(rt: HostRuntime) -> Result<(), Fail> {
     let mut session = Session::new(SharePrice);
     prints(
         &rt,
-        session.line(18446744073709551615, b"Q 300"),
+        session.line(u64::MAX, b"Q 300"),
         b"line 18446744073709551615 refused 2",
     )?;
     prints(

@@ -35,8 +35,7 @@ fn the_earliest_comes_first(rt: HostRuntime) {
     ends.put(2, Tick(10));
     ends.put(7, Tick(20));
     ends.put(2, Tick(40));
-    assert_eq!(rt; take_first(&mut ends), Some(7));
-    assert_eq!(rt; take_first(&mut ends), Some(5));
-    assert_eq!(rt; take_first(&mut ends), Some(2));
-    assert_eq!(rt; take_first(&mut ends), None);
+    for owner in [Some(7), Some(5), Some(2), None] {
+        assert_eq!(rt; take_first(&mut ends), owner);
+    }
 }
