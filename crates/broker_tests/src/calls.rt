@@ -114,13 +114,10 @@ pub fn taken(frame: u32, former: u32) -> Result<Got, Refusal> {
 
 /// What a slip says of it, where this answer is one.
 fn told(answer: Answer) -> Option<Got> {
-    match answer {
-        Answer::Granted(slip) => Some(Got {
-            frame: slip.frame,
-            former: slip.former,
-        }),
-        _ => None,
-    }
+    answer.slip().map(|slip| Got {
+        frame: slip.frame,
+        former: slip.former,
+    })
 }
 
 /// Makes the ask of each client, and compares what the client gets. Each slip is delivered at once.

@@ -3,22 +3,19 @@ use crate::show::{Asked, show_answers};
 use broker::Broker;
 use family::{Order, Told, rehearse};
 use price::Price;
-use rules::{Answer, Call, SlipNumbers};
+use rules::{Call, SlipNumbers};
 use std::io::Write;
 use std::{array, io};
 
-// How many brokers play.
+/// How many brokers play.
 const BROKERS: usize = 3;
 
 /// What each broker answered.
 pub type Answers = [Told; BROKERS];
 
-// The slip that a broker answered.
+/// The slip that a broker answered.
 fn slip(answer: Told) -> Option<SlipNumbers> {
-    match answer {
-        Some(Ok(Answer::Granted(slip))) => Some(slip),
-        _ => None,
-    }
+    answer?.ok()?.slip()
 }
 
 /// The brokers that play, and where their answers are printed.
@@ -29,14 +26,14 @@ pub struct Play<'a, P: Price, W: Write> {
 }
 
 impl<P: Price, W: Write> Play<'_, P, W> {
-    // Performs a call on one broker.
+    /// Performs a call on one broker.
     fn call_one(&mut self, broker: usize, call: Call) -> Told {
         let mut told = [None];
         rehearse(self.brokers, &[Order { broker, call }], &mut told).unwrap();
         told[0]
     }
 
-    // Performs a call on each broker.
+    /// Performs a call on each broker.
     fn call_each(&mut self, call: Call) -> Answers {
         let orders: [Order; BROKERS] = array::from_fn(|broker| Order { broker, call });
         let mut answers = [None; BROKERS];
@@ -44,7 +41,7 @@ impl<P: Price, W: Write> Play<'_, P, W> {
         answers
     }
 
-    // Delivers the slip of each answer that has one.
+    /// Delivers the slip of each answer that has one.
     fn deliver_each(&mut self, answers: &Answers) -> Answers {
         array::from_fn(|broker| {
             let slip = slip(answers[broker])?;
@@ -52,21 +49,21 @@ impl<P: Price, W: Write> Play<'_, P, W> {
         })
     }
 
-    // Performs a call on each broker, and prints the answers.
+    /// Performs a call on each broker, and prints the answers.
     fn tell(&mut self, call: Call) -> io::Result<Answers> {
         let answers = self.call_each(call);
         show_answers(&Asked(call), &answers, self.out)?;
         Ok(answers)
     }
 
-    // Delivers what was granted, and prints the answers.
+    /// Delivers what was granted, and prints the answers.
     fn tell_delivery(&mut self, answers: &Answers) -> io::Result<()> {
         let delivered = self.deliver_each(answers);
         show_answers(&"deliver", &delivered, self.out)
     }
 
-    // Plays one call on each broker, delivers what is granted, and prints the answers. It answers whether a broker has
-    // granted a frame.
+    /// Plays one call on each broker, delivers what is granted, and prints the answers. It answers whether a broker has
+    /// granted a frame.
     fn call(&mut self, call: Call) -> io::Result<bool> {
         let answers = self.tell(call)?;
         let granted = answers.iter().any(|answer| slip(*answer).is_some());
@@ -76,7 +73,7 @@ impl<P: Price, W: Write> Play<'_, P, W> {
         Ok(granted)
     }
 
-    // Plays calls one after the other.
+    /// Plays calls one after the other.
     fn calls(&mut self, calls: &[Call]) -> io::Result<()> {
         for call in calls {
             self.call(*call)?;
@@ -84,7 +81,7 @@ impl<P: Price, W: Write> Play<'_, P, W> {
         Ok(())
     }
 
-    // Lets the clients 1, 2 and 3 ask in turn until no broker grants anything, at most 24 times round.
+    /// Lets the clients 1, 2 and 3 ask in turn until no broker grants anything, at most 24 times round.
     fn settle(&mut self) -> io::Result<()> {
         for _round in 0..24 {
             let mut granted = false;
@@ -98,8 +95,8 @@ impl<P: Price, W: Write> Play<'_, P, W> {
         Ok(())
     }
 
-    // A passage on each broker, in which other calls wait and wrong slips are refused: client 1 hands a frame back and
-    // asks for it again; before the slip is delivered, client 2 asks, the clock is set, and a slip of unit 8 comes.
+    /// A passage on each broker, in which other calls wait and wrong slips are refused: client 1 hands a frame back and
+    /// asks for it again; before the slip is delivered, client 2 asks, the clock is set, and a slip of unit 8 comes.
     fn passage(&mut self) -> io::Result<()> {
         self.call(Call::HandBack { client: 1 })?;
         let answers = self.tell(Call::Ask { client: 1 })?;

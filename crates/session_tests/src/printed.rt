@@ -6,7 +6,7 @@ use std::process::Abort;
 use std::test::Fail;
 use text::Line;
 
-// A price of class 0, and the largest numbers that a quote can have.
+/// A price of class 0, and the largest numbers that a quote can have.
 const LOW: Quote = Quote {
     class: 0,
     top: 100,
@@ -19,7 +19,7 @@ const LARGEST: Quote = Quote {
     bottom: u32::MAX,
 };
 
-// Whether a value is printed as this line, and all behind the line stays as it was.
+/// Whether a value is printed as this line, and all behind the line stays as it was.
 pub(crate) fn prints(rt: &impl Abort, value: Printed, line: &[u8]) -> Result<(), Fail> {
     let mut out = [b'#'; 128];
     let n = value.write(&mut out)?;
@@ -29,7 +29,7 @@ pub(crate) fn prints(rt: &impl Abort, value: Printed, line: &[u8]) -> Result<(),
     Ok(())
 }
 
-// One line of each kind that has no price.
+/// One line of each kind that has no price.
 const PLAIN: [(Printed, &[u8]); 9] = [
     (Printed::Pool { unit: 7, frames: 3 }, b"pool 7 frames 3"),
     (Printed::Admit { client: 1 }, b"admit 1"),
@@ -77,7 +77,7 @@ fn lines_without_a_price(rt: HostRuntime) -> Result<(), Fail> {
     Ok(())
 }
 
-// Grants and clients, with and without their second part, and the longest line.
+/// Grants and clients, with and without their second part, and the longest line.
 const PRICED: [(Printed, &[u8]); 5] = [
     (
         Printed::Grant(Grant {

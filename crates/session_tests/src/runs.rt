@@ -5,7 +5,7 @@ use session::{Run, Session, serve};
 use std::process::Abort;
 use std::test::Fail;
 
-// Whether a run prints these lines, and then nothing more.
+/// Whether a run prints these lines, and then nothing more.
 fn runs<P: Price + Drop>(rt: &impl Abort, run: &mut Run<P>, lines: &[&[u8]]) -> Result<(), Fail> {
     for line in lines {
         prints(rt, run.next().expect(rt, "the run ends too early"), *line)?;
@@ -20,7 +20,7 @@ fn empty_input(rt: HostRuntime) -> Result<(), Fail> {
     runs(&rt, &mut Run::new(SharePrice, b""), &[b"end free 0"])
 }
 
-// An input is read, performed and printed whole.
+/// An input is read, performed and printed whole.
 #[test]
 fn an_input_is_served(rt: HostRuntime) -> Result<(), Fail> {
     let input: &[u8] = b"S 7 1\nA 1 300 0 0 1\nQ 1";
@@ -32,7 +32,7 @@ fn an_input_is_served(rt: HostRuntime) -> Result<(), Fail> {
     Ok(())
 }
 
-// A frame is taken from the lowest payer, which is told with its price before the loss; the last ask is outbid.
+/// A frame is taken from the lowest payer, which is told with its price before the loss; the last ask is outbid.
 #[test]
 fn frames_taken_under_the_share_price(rt: HostRuntime) -> Result<(), Fail> {
     runs(
@@ -57,7 +57,7 @@ fn frames_taken_under_the_share_price(rt: HostRuntime) -> Result<(), Fail> {
     )
 }
 
-// A client below its minimum takes a frame outright, and pays less than the one it takes it from.
+/// A client below its minimum takes a frame outright, and pays less than the one it takes it from.
 #[test]
 fn below_its_minimum_nothing_is_compared(rt: HostRuntime) -> Result<(), Fail> {
     runs(
@@ -102,7 +102,7 @@ fn estimates_end_under_the_class_price(rt: HostRuntime) -> Result<(), Fail> {
     )
 }
 
-// A line is told with the number that it is given.
+/// A line is told with the number that it is given.
 #[test]
 fn lines_by_number(rt: HostRuntime) -> Result<(), Fail> {
     let mut session = Session::new(SharePrice);

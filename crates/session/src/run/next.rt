@@ -28,7 +28,7 @@ impl<'a, P: Price> Run<'a, P> {
         }
     }
 
-    // Performs a line under the next number.
+    /// Performs a line under the next number.
     fn perform(&mut self, line: &[u8]) -> Printed
         requires { self.old.number + 1 + length self.old.lines.rest.now < 2 ^ 64 }
         ensures lined { Lined (self.old.number + 1) self.old.session.broker line.now result self.new.session.broker }
@@ -40,7 +40,7 @@ impl<'a, P: Price> Run<'a, P> {
         self.session.line(self.number, line)
     }
 
-    // Begins the end report with the free frames.
+    /// Begins the end report with the free frames.
     fn report(&mut self) -> Printed
         ensures printed { result ≡ Free (length (view self.old.session.broker).free) }
         ensures session { self.new.session ≡ self.old.session }
@@ -52,7 +52,7 @@ impl<'a, P: Price> Run<'a, P> {
         }
     }
 
-    // Reports a client.
+    /// Reports a client.
     fn report_client(&mut self, client: u32) -> Printed
         ensures printed { result ≡ Client client (held_of (meaning self.old.session.broker) (view self.old.session.broker) client) }
         ensures session { self.new.session ≡ self.old.session }
@@ -65,7 +65,7 @@ impl<'a, P: Price> Run<'a, P> {
         }
     }
 
-    // What is printed of the next line, or the head of the end report where no line is left.
+    /// What is printed of the next line, or the head of the end report where no line is left.
     fn next_line(&mut self) -> Printed
         requires { self.old.stage ≡ Reading }
         ensures { Nexts self.old (Some result) self.new }
@@ -76,7 +76,7 @@ impl<'a, P: Price> Run<'a, P> {
         }
     }
 
-    // What is printed of the next client above one.
+    /// What is printed of the next client above one.
     fn next_client(&mut self, after: u32) -> Option<Printed>
         requires { self.old.stage ≡ Reporting after }
         ensures { Nexts self.old result self.new }

@@ -11,7 +11,7 @@ use price::Price;
 use rules::{Quote, Refusal, SlipNumbers};
 
 impl<P: Price> Session<P> {
-    // The price of a client at its holding and so many frames more.
+    /// The price of a client at its holding and so many frames more.
     fn price(&self, client: u32, more: u32) -> Quote
         requires { HasPrice (view self.now.broker) client more }
         ensures { result ≡ price_with (meaning self.now.broker) (view self.now.broker) client more }
@@ -20,7 +20,7 @@ impl<P: Price> Session<P> {
         self.broker.price_at(client, holding + more).unwrap()
     }
 
-    // A client that lost a frame, and what it paid before.
+    /// A client that lost a frame, and what it paid before.
     fn loser(&self, former: u32) -> Taken
         requires { HasPrice (view self.now.broker) former 1 }
         ensures { result ≡ lost_by (meaning self.now.broker) (view self.now.broker) former }
@@ -31,7 +31,7 @@ impl<P: Price> Session<P> {
         }
     }
 
-    // From whom a frame was taken: nobody where it was free.
+    /// From whom a frame was taken: nobody where it was free.
     fn taken(&self, former: u32) -> Option<Taken>
         requires { Lost (view self.now.broker) former }
         ensures { result ≡ taken_from (meaning self.now.broker) (view self.now.broker) former }
@@ -39,7 +39,7 @@ impl<P: Price> Session<P> {
         (former != 0).then(|| self.loser(former))
     }
 
-    // What is printed of a slip just granted.
+    /// What is printed of a slip just granted.
     fn grant(&self, slip: SlipNumbers) -> Grant
         requires { HasPrice (view self.now.broker) slip.client 0 × Lost (view self.now.broker) slip.former }
         ensures { result ≡ grant_after (meaning self.now.broker) (view self.now.broker) slip }
@@ -52,7 +52,7 @@ impl<P: Price> Session<P> {
         }
     }
 
-    // Asks for a frame, and delivers the slip at once.
+    /// Asks for a frame, and delivers the slip at once.
     pub(crate) fn ask(&mut self, client: u32) -> Result<Printed, Refusal>
         ensures { Performed self.old.broker (Ask client) result self.new.broker }
     {

@@ -8,7 +8,7 @@ use price::Price;
 use rules::{Admission, Estimate, Refusal};
 
 impl<P: Price> Session<P> {
-    // Starts the broker.
+    /// Starts the broker.
     pub(crate) fn start(&mut self, unit: u32, frames: u32) -> Result<Printed, Refusal>
         ensures { Performed self.old.broker (Start unit frames) result self.new.broker }
     {
@@ -17,7 +17,7 @@ impl<P: Price> Session<P> {
             .map(|()| Printed::Pool { unit, frames })
     }
 
-    // Admits a client.
+    /// Admits a client.
     pub(crate) fn admit(&mut self, asked: Admission) -> Result<Printed, Refusal>
         ensures { Performed self.old.broker (Admit asked) result self.new.broker }
     {
@@ -26,7 +26,7 @@ impl<P: Price> Session<P> {
         })
     }
 
-    // Hands a frame of a client back.
+    /// Hands a frame of a client back.
     pub(crate) fn hand_back(&mut self, client: u32) -> Result<Printed, Refusal>
         ensures { Performed self.old.broker (HandBack client) result self.new.broker }
     {
@@ -35,7 +35,7 @@ impl<P: Price> Session<P> {
             .map(|frame| Printed::Back { client, frame })
     }
 
-    // Lets a client go.
+    /// Lets a client go.
     pub(crate) fn leave(&mut self, client: u32) -> Result<Printed, Refusal>
         ensures { Performed self.old.broker (Leave client) result self.new.broker }
     {
@@ -44,7 +44,7 @@ impl<P: Price> Session<P> {
             .map(|frames| Printed::Leave { client, frames })
     }
 
-    // Notes an estimate.
+    /// Notes an estimate.
     pub(crate) fn estimate(&mut self, client: u32, estimate: Estimate) -> Result<Printed, Refusal>
         ensures { Performed self.old.broker (Estimated client estimate) result self.new.broker }
     {
@@ -53,7 +53,7 @@ impl<P: Price> Session<P> {
             .map(|()| Printed::Estimate { client })
     }
 
-    // Sets the clock.
+    /// Sets the clock.
     pub(crate) fn clock(&mut self, tick: u32) -> Result<Printed, Refusal>
         ensures { Performed self.old.broker (Clock tick) result self.new.broker }
     {

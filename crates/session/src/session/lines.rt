@@ -11,7 +11,7 @@ use events::{Event, LineFault, read};
 use price::Price;
 use rules::Refusal;
 
-// What is printed: a refusal is told with the line's number.
+/// What is printed: a refusal is told with the line's number.
 fn numbered(number: u64, outcome: Result<Printed, Refusal>) -> Printed
     ensures { result ≡ told number outcome }
 {
@@ -50,7 +50,7 @@ impl<P: Price> Session<P> {
         }
     }
 
-    // Performs the event that a line says. A malformed line changes nothing.
+    /// Performs the event that a line says. A malformed line changes nothing.
     fn judge(&mut self, line: &[u8]) -> Result<Printed, Refusal>
         ensures { Judged self.old.broker line.now result self.new.broker }
     {

@@ -8,7 +8,7 @@ use crate::printed::Held;
 use price::Price;
 
 impl<P: Price> Session<P> {
-    // How many frames a client holds and what it pays for the last; none where it holds nothing.
+    /// How many frames a client holds and what it pays for the last; none where it holds nothing.
     pub(crate) fn held(&self, client: u32) -> Option<Held>
         ensures { result ≡ held_of (meaning self.now.broker) (view self.now.broker) client }
     {
