@@ -1,6 +1,5 @@
 -- Bids as the rank compares them, in an order from the lowest on.
 --
--- Ranked      a bid's client, minimum and count of frames, and what a price tells of its offer
 -- Keyed       a ranked bid is made of this client, this minimum and this offer under a price
 -- KeyOf       a ranked bid is that of a bid under a price
 -- within      the count is at most the minimum

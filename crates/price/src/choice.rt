@@ -4,7 +4,7 @@ ghost use Rattle.either.specs.declared.Either.TheVariants.{Left, Right};
 
 use crate::offer::ValidOffer;
 use crate::telling::Price;
-use either::{Either, Left, Right};
+use either::{Either, for_both};
 use rules::Quote;
 
 /// A price that is one of two tells what the one tells that it is.
@@ -14,9 +14,6 @@ impl<P: Price, Q: Price> Price for Either<P, Q> {
     ghost lawful = { elim [ Left one ↦ P.Price.lawful one | Right other ↦ Q.Price.lawful other ] };
 
     fn quote(&self, offer: ValidOffer) -> Quote {
-        match self {
-            Left(price) => price.quote(offer),
-            Right(price) => price.quote(offer),
-        }
+        for_both!(self, price => price.quote(offer))
     }
 }

@@ -11,6 +11,7 @@ fn fill(price: &TaxedPrice, active: Option<u32>, sheet: &mut [u32])
     requires { length sheet.old ≤ 4_096 }
     ensures { Sheet price.now.rate active sheet.new }
 {
+    // Kept: of places that are written through a zip with the counts nothing is known behind the loop.
     for (i, place) in sheet.iter_mut().enumerate() {
         *place = price.bottom(active, i as u32 + 1);
     }

@@ -1,5 +1,5 @@
 //! The sheet as it is printed.
-ghost use Rattle.std.specs.Prelude.{◌≡◌, ◌++◌, map, length, string_bytes, MatchResult};
+ghost use Rattle.std.specs.Prelude.{◌≡◌, ◌≤◌, ◌++◌, map, length, string_bytes, MatchResult};
 ghost use Rattle.tariff.specs.declared.fault.Fault.TheVariants as fault;
 ghost use Rattle.tariff.specs.Listings.{row, rows, Prints, Lists};
 
@@ -10,11 +10,12 @@ use std::alloc::Global;
 
 /// A line for each place of a sheet: a count of frames, a space, and the bottom there.
 fn lines(alloc: Global, sheet: &[u32]) -> Result<String, Fault>
+    requires { length sheet.now ≤ 4_096 }
     ensures { MatchResult result (λ text. string_bytes text ≡ rows 1 sheet.now) (λ f. f ≡ fault.Memory) }
 {
     let mut text = String::new(alloc);
-    for (i, bottom) in sheet.iter().enumerate() {
-        writeln!(text, "{} {bottom}", i + 1).map_err(|_| Fault::Memory)?;
+    for (count, bottom) in (1u32..).zip(sheet) {
+        writeln!(text, "{count} {bottom}").map_err(|_| Fault::Memory)?;
     }
     Ok(text)
 }

@@ -22,14 +22,13 @@ fn number(word: &str) -> Option<u32>
 }
 
 /// The active count that a word says, or none where it is `-`.
-// Kept: `ReadsEstimate` in specs/ defines what is read as the count or its absence, or neither, before any fault is named.
-fn estimate(word: &str) -> Option<Option<u32>>
+fn estimate(word: &str) -> Result<Option<u32>, Fault>
     ensures { ReadsEstimate word.now result }
 {
     if word == "-" {
-        return Some(None);
+        return Ok(None);
     }
-    number(word).map(Some)
+    Ok(Some(number(word).ok_or(Fault::Active)?))
 }
 
 impl Request {
@@ -39,7 +38,7 @@ impl Request {
     {
         Ok(Request {
             rate: number(rate).ok_or(Fault::Rate)?,
-            active: estimate(active).ok_or(Fault::Active)?,
+            active: estimate(active)?,
             length: number(length).ok_or(Fault::Length)?,
         })
     }

@@ -18,6 +18,7 @@ impl ValidOffer {
     ) -> Result<ValidOffer, Refusal>
         ensures { Replies (offer_entries shares class count) (λ o. o.offer ≡ record { shares = shares; class = class; active = active; count = count }) result }
     {
+        // Kept: one function for this and an admission, with refusals of its own, would be longer than what it spares.
         if !(1..=1_000_000).contains(&shares) {
             return Err(Refusal::SharesOutOfRange);
         }
