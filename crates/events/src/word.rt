@@ -39,6 +39,7 @@ pub enum EventKind {
 }
 
 /// What an event's letter says: the kind of event, and how many numbers follow.
+// Kept: the project gives this form, a char match whose cases choose the count of numbers beside the kind.
 #[derive(Clone, Copy, PartialEq, Eq, Debug)]
 pub struct Form {
     pub kind: EventKind,
@@ -46,6 +47,7 @@ pub struct Form {
 }
 
 /// A word of an event line: its part of the line, its column, counted from 1, and what it says.
+// Kept: the project gives this form, an enum of letters, numbers and separators, each with its part and its column.
 #[derive(Clone, Copy)]
 pub enum Word<'a> {
     /// One of the seven letters.

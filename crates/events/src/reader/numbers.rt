@@ -15,7 +15,7 @@ impl Reader<'_> {
         ensures cases { MatchResult result (λ n. NextNumber self.old.line.now self.old.at n self.new.at) (NoNextNumber self.old.line.now self.old.at) }
     {
         self.next_word(Due::Separator)?;
-        // Kept: words are one enum and the next one a method of the reader; that a number comes here is proved.
+        // Kept: the project gives this form, words that are one enum; that a number comes here is proved, not typed.
         let Word::Number { value, .. } = self.next_word(Due::Number)? else {
             unreachable!()
         };
@@ -28,7 +28,7 @@ impl Reader<'_> {
         ensures line { self.new.line ≡ self.old.line }
         ensures cases { MatchResult result (λ f. Behind self.old.line.now f.kind [] self.new.at × (f.count ≡ count f.kind)) (FirstFault self.old.line.now) }
     {
-        // Kept: words are one enum and the next one a method of the reader; that a letter comes here is proved.
+        // Kept: the project gives this form, words that are one enum; that a letter comes here is proved, not typed.
         let Word::Letter { form, .. } = self.next_word(Due::Letter)? else {
             unreachable!()
         };
