@@ -26,7 +26,7 @@ impl Reader<'_> {
     pub(crate) fn form(&mut self) -> Result<Form, Fault>
         requires { self.old.at ≡ 0 }
         ensures line { self.new.line ≡ self.old.line }
-        ensures cases { MatchResult result (λ f. Behind self.old.line.now f.kind [] self.new.at × (f.count ≡ count f.kind)) (FirstFault self.old.line.now) }
+        ensures cases { MatchResult result (λ f. Behind self.old.line.now f.kind [] self.new.at) (FirstFault self.old.line.now) }
     {
         // Kept: the project gives this form, words that are one enum; that a letter comes here is proved, not typed.
         let Word::Letter { form, .. } = self.next_word(Due::Letter)? else {
@@ -37,7 +37,7 @@ impl Reader<'_> {
 
     /// The numbers of a line, in the first places of five. The reader is right behind the line's letter.
     pub(crate) fn numbers(&mut self, form: Form) -> Result<[u32; 5], Fault>
-        requires { Behind self.old.line.now form.kind [] self.old.at × (form.count ≡ count form.kind) }
+        requires { Behind self.old.line.now form.kind [] self.old.at }
         ensures line { self.new.line ≡ self.old.line }
         ensures cases { MatchResult result (λ ns. Behind self.old.line.now form.kind (take (count form.kind) ns) self.new.at × (length ns ≡ 5)) (FirstFault self.old.line.now) }
     {
