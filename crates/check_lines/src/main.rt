@@ -8,15 +8,11 @@ use events::read_input;
 use report::report;
 use std::io::{BufWriter, Write};
 
-fn check(rt: &HostRuntime) -> anyhow::Result<()> {
+fn main(rt: HostRuntime) -> anyhow::Result<()> {
     let input = read_input(rt.alloc(), rt.stdin())?;
     let mut out = BufWriter::new(rt.alloc(), rt.stdout())?;
     let tally = report(&input, &mut out)?;
     writeln!(out, "lines {} events {}", tally.lines, tally.events)?;
     out.flush()?;
     Ok(())
-}
-
-fn main(rt: HostRuntime) -> anyhow::Result<()> {
-    check(&rt)
 }

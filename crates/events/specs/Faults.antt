@@ -1,6 +1,8 @@
 -- The first fault of an event line, and the verdict on a line.
 --
+-- Ended        the last of some numbers ends where the rest of the line begins
 -- Begins       the line begins with a letter and some numbers, rightly written, and goes on with the rest
+-- fault_at     a fault of this kind at this column
 -- FirstFault   the first fault from the left, with its kind and its column
 -- Verdict      a line is that of an event, or has a first fault
 use Rattle.std.specs.Prelude.{◌≡◌, ℕ, ◌+◌, ◌^◌, ◌<◌, List, [], ◌∷◌, ◌++◌, length, Ok, Err, Result, ◌≢◌}

@@ -1,7 +1,5 @@
 -- The words of event lines: letters, numbers and the spaces between them.
 --
--- letter    the letter of each kind of event
--- count     how many numbers follow the letter
 -- spaced    a number as it stands on a line: after one space, in decimal
 -- spelled   a letter and some numbers, each after one space
 -- NoDigit   no digit comes next
@@ -12,30 +10,10 @@ use Rattle.std.specs.List.{flat_map}
 use Rattle.std.specs.Char.{is_ascii_digit}
 use Rattle.events.specs.declared.word.Due.{Due}
 use Rattle.events.specs.declared.word.Due.TheVariants as due
-pub use Rattle.events.specs.declared.word.EventKind.{EventKind}
-pub use Rattle.events.specs.declared.word.EventKind.TheVariants.{Start, Admit, Ask, HandBack, Leave, Estimate, Clock}
+pub use Rattle.events.specs.Kinds.{EventKind, Start, Admit, Ask, HandBack, Leave, Estimate, Clock, letter, count}
 pub use Rattle.events.specs.declared.word.Form.{Form}
 use Rattle.events.specs.declared.word.Word.{Word}
 use Rattle.events.specs.declared.word.Word.TheVariants as word
-
--- S, A, Q, H, L, E and T
-abbrev pub letter : EventKind → ℕ
-letter Start = 83
-letter Admit = 65
-letter Ask = 81
-letter HandBack = 72
-letter Leave = 76
-letter Estimate = 69
-letter Clock = 84
-
-abbrev pub count : EventKind → ℕ
-count Start = 2
-count Admit = 5
-count Ask = 1
-count HandBack = 1
-count Leave = 1
-count Estimate = 3
-count Clock = 1
 
 abbrev pub spaced : ℕ → List ℕ
 spaced n = 32 ∷ decimal n
@@ -49,7 +27,7 @@ NoDigit (b ∷ bs) = is_ascii_digit b ≡ false
 
 -- A letter is that of its kind, a separator is one space, and a number is its value in decimal, all of its digits.
 abbrev pub Says : Word → List ℕ → Type 0
-Says (word.Letter text column form) more = (text.now ≡ letter form.kind ∷ []) × (form.count ≡ count form.kind)
+Says (word.Letter text column form) more = text.now ≡ letter form.kind ∷ []
 Says (word.Number text column value) more = (value < 2 ^ 32) × (text.now ≡ decimal value) × NoDigit more
 Says (word.Separator text column) more = text.now ≡ 32 ∷ []
 

@@ -1,3 +1,4 @@
+pub mod Kinds
 pub mod Grammar
 pub mod Written
 pub mod Faults

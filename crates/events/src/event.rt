@@ -38,7 +38,7 @@ fn event_of(k: EventKind, ns: [u32; 5]) -> Event
     ensures kind { kind result ≡ k }
     ensures numbers { numbers result ≡ take (count k) ns }
 {
-    // Kept: the letter chooses count and event, so the numbers are read before the event gives them names.
+    // Kept: the project gives this form, a char match whose cases choose the count of numbers and the event.
     let [a, b, c, d, e] = ns;
     match k {
         EventKind::Start => Event::Start { unit: a, frames: b },
@@ -61,6 +61,7 @@ fn event_of(k: EventKind, ns: [u32; 5]) -> Event
 }
 
 /// The verdict on a line, by its letter, its numbers and its end.
+// Kept: in one function with `read` each of four returns wants its own proof of `only` and `decided`: eight for two.
 fn judge(line: &[u8]) -> Result<Event, Refusal>
     ensures { Verdict line.now result }
 {

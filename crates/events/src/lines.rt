@@ -12,7 +12,7 @@ const WIDTH: usize = 80;
 /// The lines of an input, cut by byte 10 alone, the first 80 bytes of each.
 ///
 /// Text after the last newline is a line unless it is empty.
-// Kept: `split_inclusive` has no memchr and keeps the newline; each line would still be cut to 80 bytes, by `NextLine`.
+// Kept: `bstr`'s `lines` drop a `\r` too, its `lines_with_terminator` keep the newline: `next` would still cut each.
 #[derive(Drop)]
 pub struct Lines<'a> {
     rest: &'a [u8],
@@ -28,6 +28,7 @@ impl<'a> Lines<'a> {
 }
 
 /// How many bytes stand before the first newline: all, where there is none.
+// Kept: a `match` that answers line and rest at once was tried, and is slower: three instructions more for each line.
 fn line_len(text: &[u8]) -> usize
     ensures within { result ≤ length text.now }
     ensures plain { NoNewline (take result text.now) }

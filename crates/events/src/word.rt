@@ -1,6 +1,6 @@
 //! The words of an event line, each a part of the line itself.
 ghost use Rattle.std.specs.Prelude.{◌≡◌};
-ghost use Rattle.events.specs.Reading.{kind_of, part};
+ghost use Rattle.events.specs.Kinds.{count as numbers_of};
 
 use rules::FaultKind;
 
@@ -13,6 +13,8 @@ pub enum Due {
 }
 
 impl Due {
+    ghost use Rattle.events.specs.Reading.{kind_of};
+
     /// The kind of fault where no such word stands.
     pub fn missing(&self) -> FaultKind
         ensures { result ≡ kind_of self.now }
@@ -39,13 +41,16 @@ pub enum EventKind {
 }
 
 /// What an event's letter says: the kind of event, and how many numbers follow.
+// Kept: the project gives this form, a char match whose cases choose the count of numbers beside the kind.
 #[derive(Clone, Copy, PartialEq, Eq, Debug)]
 pub struct Form {
     pub kind: EventKind,
     pub count: usize,
+    pub ghost counted: { count ≡ numbers_of kind },
 }
 
 /// A word of an event line: its part of the line, its column, counted from 1, and what it says.
+// Kept: the project gives this form, an enum of letters, numbers and separators, each with its part and its column.
 #[derive(Clone, Copy)]
 pub enum Word<'a> {
     /// One of the seven letters.
@@ -68,6 +73,8 @@ pub enum Word<'a> {
 }
 
 impl<'a> Word<'a> {
+    ghost use Rattle.events.specs.Reading.{part};
+
     /// The word's part of the line.
     pub fn text(&self) -> &'a [u8]
         ensures { result.now ≡ part self.now }

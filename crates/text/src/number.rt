@@ -6,12 +6,10 @@ ghost use Rattle.std.specs.Prelude.{◌≡◌, ℕ, ◌^◌, ◌<◌, decimal, M
 pub fn plain_number(bytes: &[u8]) -> Option<u32>
     ensures { MatchOption result ((n : ℕ) → n < 2 ^ 32 → bytes.now ≢ decimal n) (λ n. (n < 2 ^ 32) × (bytes.now ≡ decimal n)) }
 {
-    // Kept: a slice pattern says no more of an empty text and a leading zero, and the length is tested beside it.
-    let len = bytes.len();
-    if len == 0 || len > 10 {
+    if matches!(bytes, [] | [b'0', _, ..]) {
         return None;
     }
-    if bytes[0] == b'0' && len > 1 {
+    if bytes.len() > 10 {
         return None;
     }
     // Kept: std's `parse` made check_lines a quarter slower on 16 MiB; with `try_fold` it stayed open what None means.

@@ -15,7 +15,7 @@ impl Reader<'_> {
         ensures cases { MatchResult result (λ n. NextNumber self.old.line.now self.old.at n self.new.at) (NoNextNumber self.old.line.now self.old.at) }
     {
         self.next_word(Due::Separator)?;
-        // Kept: words are one enum and the next one a method of the reader; that a number comes here is proved.
+        // Kept: the project gives this form, words that are one enum; that a number comes here is proved, not typed.
         let Word::Number { value, .. } = self.next_word(Due::Number)? else {
             unreachable!()
         };
@@ -26,9 +26,9 @@ impl Reader<'_> {
     pub(crate) fn form(&mut self) -> Result<Form, Fault>
         requires { self.old.at ≡ 0 }
         ensures line { self.new.line ≡ self.old.line }
-        ensures cases { MatchResult result (λ f. Behind self.old.line.now f.kind [] self.new.at × (f.count ≡ count f.kind)) (FirstFault self.old.line.now) }
+        ensures cases { MatchResult result (λ f. Behind self.old.line.now f.kind [] self.new.at) (FirstFault self.old.line.now) }
     {
-        // Kept: words are one enum and the next one a method of the reader; that a letter comes here is proved.
+        // Kept: the project gives this form, words that are one enum; that a letter comes here is proved, not typed.
         let Word::Letter { form, .. } = self.next_word(Due::Letter)? else {
             unreachable!()
         };
@@ -37,7 +37,7 @@ impl Reader<'_> {
 
     /// The numbers of a line, in the first places of five. The reader is right behind the line's letter.
     pub(crate) fn numbers(&mut self, form: Form) -> Result<[u32; 5], Fault>
-        requires { Behind self.old.line.now form.kind [] self.old.at × (form.count ≡ count form.kind) }
+        requires { Behind self.old.line.now form.kind [] self.old.at }
         ensures line { self.new.line ≡ self.old.line }
         ensures cases { MatchResult result (λ ns. Behind self.old.line.now form.kind (take (count form.kind) ns) self.new.at × (length ns ≡ 5)) (FirstFault self.old.line.now) }
     {

@@ -1,7 +1,7 @@
 //! The reader's words.
 ghost use Rattle.std.specs.Prelude.{◌≡◌, ℕ, ◌+◌, ◌^◌, ◌<◌, [], drop, decimal, MatchOption, MatchResult, ◌≢◌};
 ghost use Rattle.std.specs.Str.Parse.{AllDigits};
-ghost use Rattle.events.specs.Grammar.{EventKind, letter, count};
+ghost use Rattle.events.specs.Grammar.{EventKind, letter};
 ghost use Rattle.events.specs.Reading.{Found, Missed, Run, Stands};
 ghost use Rattle.events.specs.Faults.{fault_at};
 ghost use Rattle.rules.specs.declared.refusal.FaultKind.TheVariants as fault;
@@ -14,7 +14,7 @@ use text::plain_number;
 
 /// What a letter says, if it is one of the seven.
 fn form(c: char) -> Option<Form>
-    ensures { MatchOption result ((k : EventKind) → letter k ≢ c) (λ f. (letter f.kind ≡ c) × (f.count ≡ count f.kind)) }
+    ensures { MatchOption result ((k : EventKind) → letter k ≢ c) (λ f. letter f.kind ≡ c) }
 {
     let (kind, count) = match c {
         'S' => (EventKind::Start, 2),

@@ -1,14 +1,22 @@
-use Rattle.std.proofs.Common.{get_or, sym, ap, ◌∙◌, subst, ⊎_elim, arith}
+use Rattle.std.proofs.Common.{◌≡◌, ◌<◌, length, get_or, sym, ap, ◌∙◌, subst, arith, rules}
 use Rattle.std.specs.Str.Parse.{AllDigits, digits_value}
 use Rattle.std.proofs.lemmas.List.{take_all}
 use Rattle.text.proofs.Numbers.{Reads, digit_from, digits_on, value_small, value_on, none_writes, long_writes, zero_writes, other_writes, number_read}
+use Rattle.text.proofs.number.plain_number.Goals.{in_default, in_default-2, in-empty, in-empty-2}
 use Rattle.text.proofs.number.plain_number.Goals as goal
 
-pub returns-then-len-eq0 : goal.returns-then-len-eq0
-returns-then-len-eq0 c = ⊎_elim (λ none. none_writes _ none) (λ long. long_writes _ long.1) c.then-len-eq0.either
+pub returns-then-matches : goal.returns-then-matches
+returns-then-matches c =
+    let hit = c.if-matches.true in
+    elim c.if-matches-2.branch [
+      | in_default w ↦ let miss = w.matches-is in search (rules, arith)
+      | in_default-2 w ↦ let miss = w.matches-is in search (rules, arith)
+      | in-empty w ↦ none_writes _ (omega (arith, w.in-empty.len_below))
+      | in-empty-2 w ↦ zero_writes _ (omega (arith, w.in-empty.len_at_least)) (search (rules, arith))
+    ]
 
-pub returns-then-len-gt1 : goal.returns-then-len-gt1
-returns-then-len-gt1 c = zero_writes _ c.if-len-gt1.true c.if-bytes-eq48.true
+pub returns-then-bytes-gt10 : goal.returns-then-bytes-gt10
+returns-then-bytes-gt10 c = long_writes _ c.if-bytes-gt10.true
 
 pub returns-then-not-is_ascii_digit : goal.returns-then-not-is_ascii_digit
 returns-then-not-is_ascii_digit c = other_writes _ _ c.loop-b-test.true (sym c.if-not-is_ascii_digit.ensures.value)
@@ -27,10 +35,20 @@ loop-b-preserved c =
       value_on _ _ _ c.loop-b-test.true c.loop-b.invariant.1 digit,
     )
 
+-- the pattern lets no empty text and no zero before others through
+front : (c : goal.After-ok) → (0 < length c.args.bytes.now) × (get_or c.args.bytes.now 0 0 ≡ 48 → length c.args.bytes.now ≡ 1)
+front c =
+    let miss = c.if-matches.false in
+    elim c.if-matches-2.branch [
+      | in_default w ↦ (omega (arith, w.in_default.len_at_least), λ zero. omega (arith, w.in_default.len_at_least, w.in_default.len_below))
+      | in_default-2 w ↦ (omega (arith, w.in_default.len_at_least), λ zero. search (rules, arith))
+      | in-empty w ↦ let hit = w.matches-is in search (rules, arith)
+      | in-empty-2 w ↦ let hit = w.matches-is in search (rules, arith)
+    ]
+
 pub returns : goal.returns
 returns c =
     let all = take_all c.loop-b.b-index c.args.bytes.now c.loop-b-test.false in
     let digits = subst (AllDigits 10) all c.loop-b.invariant.0 in
     subst (Reads c.args.bytes.now) (sym c.ok.ensures.value)
-    (number_read c.args.bytes.now _ c.try_from.result digits (omega arith)
-    (λ zero. ⊎_elim (λ one. omega arith) (λ other. absurd (other zero)) c.else-bytes-eq48.either) (c.loop-b.invariant.1 ∙ ap (digits_value 10) all) c.try_from.ensures)
+    (number_read c.args.bytes.now _ c.try_from.result digits (front c).0 (front c).1 (c.loop-b.invariant.1 ∙ ap (digits_value 10) all) c.try_from.ensures)
