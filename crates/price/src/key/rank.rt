@@ -1,10 +1,12 @@
 //! The rank of bids.
 ghost use Rattle.std.specs.Prelude.{◌≡◌};
+ghost use Rattle.std.specs.Ordering.{is_gt};
 ghost use Rattle.price.specs.Keys.{Keyed, within, outranks, RanksBids};
 
 use super::Ranked;
 use crate::offer::ValidOffer;
 use crate::telling::Price;
+use std::cmp::Ordering;
 
 impl Ranked {
     /// The bid of a client with this minimum and this offer, under a price.
@@ -27,28 +29,30 @@ impl Ranked {
         self.count <= self.minimum
     }
 
-    /// Whether this bid ranks above another: five tests, of which the first that separates the two decides. Fractions are
+    /// How this bid ranks beside another: five tests, of which the first that separates the two decides. Fractions are
     /// compared by their cross products, which fit 64 bits.
-    #[tactic(auto, using(crate::proofs::Ranks::ranks_bids), unfolding(rules::specs::Rank::above, rules::specs::Rank::ranks))]
+    #[tactic(auto, unfolding(rules::specs::Rank::above, rules::specs::Rank::ranks))]
+    fn rank(&self, other: &Ranked) -> Ordering
+        ensures { is_gt result ≡ outranks self.now other.now }
+    {
+        self.within()
+            .cmp(&other.within())
+            .then_with(|| self.quote.class.cmp(&other.quote.class))
+            .then_with(|| {
+                let mine = self.quote.top as u64 * other.quote.bottom as u64;
+                let theirs = other.quote.top as u64 * self.quote.bottom as u64;
+                mine.cmp(&theirs)
+            })
+            .then_with(|| other.client.cmp(&self.client))
+            .then_with(|| other.count.cmp(&self.count))
+    }
+
+    /// Whether this bid ranks above another.
+    #[tactic(auto, using(crate::proofs::Ranks::ranks_bids))]
     pub fn ranks_above(&self, other: &Ranked) -> bool
         ensures keys { result ≡ outranks self.now other.now }
         ensures bids { RanksBids self.now other.now result }
     {
-        // Kept: a chain of `cmp(..).then_with(|| ..)` proved too, at 0.7 per cent more instructions by the asks of bench/.
-        if self.within() != other.within() {
-            return self.within();
-        }
-        if self.quote.class != other.quote.class {
-            return self.quote.class > other.quote.class;
-        }
-        let mine = self.quote.top as u64 * other.quote.bottom as u64;
-        let theirs = other.quote.top as u64 * self.quote.bottom as u64;
-        if mine != theirs {
-            return mine > theirs;
-        }
-        if self.client != other.client {
-            return self.client < other.client;
-        }
-        self.count < other.count
+        self.rank(other).is_gt()
     }
 }
