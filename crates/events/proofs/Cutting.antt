@@ -1,32 +1,35 @@
 -- Lines, cut one after the other.
-use Rattle.std.proofs.Common.{◌≡◌, ℕ, ◌+◌, ◌-◌, ◌<◌, ◌≤◌, min, List, [], ◌∷◌, ◌++◌, length, get_or, take, drop, sym, refl, ap, ◌∙◌, subst, ⊎_elim, arith}
-use Rattle.std.proofs.lemmas.List.{length-append, length-take, take_all, take-take, take_rest, take-append-drop, drop_more, drop_all}
+use Rattle.std.proofs.Common.{◌≡◌, ◌≢◌, ℕ, zero, suc, ◌+◌, ◌-◌, ◌<◌, ◌≤◌, min, List, [], ◌∷◌, ◌++◌, length, get_or, take, drop, sym, refl, ap, ◌∙◌, subst, ⊎_elim, arith}
+use Rattle.std.proofs.lemmas.List.{length-append, take_all, take_rest, take-append-drop, drop_more, drop_all}
 use Rattle.std.proofs.str.Laws.{order}
 use Rattle.events.specs.Input.{NoNewline, Cut, Cuts, none, ended, last}
 
+-- none of the first n bytes is a newline
+pub no_newline : (n : ℕ) (text : List ℕ) → ((k : ℕ) → k < n → k < length text → get_or text k 0 ≢ 10) → NoNewline (take n text)
+no_newline zero text h = tt
+no_newline (suc n) [] h = tt
+no_newline (suc n) (b ∷ text) h = (h 0 (omega arith) (omega arith), no_newline n text (λ k before within. h (suc k) (omega arith) (omega arith)))
+
 -- the line up to a newline, and what is behind the newline
-pub ended_line : (text : List ℕ) (n behind : ℕ) → n < length text → behind ≡ n + 1 → NoNewline (take n text) → get_or text n 0 ≡ 10 →
-    Cuts (take (length text - behind) (drop behind text)) text (take n text ∷ [])
-ended_line text n behind h b plain newline =
+pub ended_line : (text : List ℕ) (n : ℕ) → n < length text → NoNewline (take n text) → get_or text n 0 ≡ 10 →
+    Cuts (take (length text - (n + 1)) (drop (n + 1) text)) text (take n text ∷ [])
+ended_line text n h plain newline =
     let split : text ≡ take n text ++ 10 ∷ drop (n + 1) text =
     sym (take-append-drop n text) ∙ ap (λ xs. take n text ++ xs) (drop_more text n 0 h ∙ ap (λ x. x ∷ drop (n + 1) text) newline) in
-    ended split plain (none (ap (λ k. drop k text) (sym b) ∙ sym (take_rest text behind)))
+    ended split plain (none (sym (take_rest text (n + 1))))
 
 -- the text after the last newline
-pub last_line : (text : List ℕ) (n behind : ℕ) → 0 < length text → length text ≤ n → behind ≡ n → NoNewline (take n text) →
-    Cuts (take (length text - behind) (drop behind text)) text (take n text ∷ [])
-last_line text n behind some h b plain =
-    let whole = take_all n text h in
-    subst (λ xs. Cuts (take (length text - behind) (drop behind text)) text (xs ∷ [])) (sym whole)
-    (last (λ none. omega (arith, ap length none)) (subst NoNewline whole plain) (take_rest text behind ∙ drop_all behind text (omega arith)))
+pub last_line : (text : List ℕ) → 0 < length text → NoNewline text → Cuts (take (length text - length text) (drop (length text) text)) text (text ∷ [])
+last_line text some plain =
+    last (λ none. omega (arith, ap length none)) plain (take_rest text (length text) ∙ drop_all (length text) text (omega arith))
 
 -- of a line its first 80 bytes
-pub line_head : (text : List ℕ) (n k : ℕ) → k ≡ min n 80 → take (k - 0) text ≡ take 80 (take n text)
-line_head text n k e =
+pub line_head : (line : List ℕ) (k : ℕ) → k ≡ min (length line) 80 → take k line ≡ take 80 line
+line_head line k e =
     ⊎_elim
-    (λ (h : n < 80). let same : k - 0 ≡ n = omega arith in ap (λ m. take m text) same ∙ sym (take_all 80 (take n text) (omega (arith, length-take n text))))
-    (λ (h : 80 ≤ n). let same : k - 0 ≡ 80 = omega arith in ap (λ m. take m text) same ∙ sym (take-take 80 n text h))
-    (order n 80)
+    (λ (h : length line < 80). take_all k line (omega arith) ∙ sym (take_all 80 line (omega arith)))
+    (λ (h : 80 ≤ length line). let same : k ≡ 80 = omega arith in ap (λ m. take m line) same)
+    (order (length line) 80)
 
 -- lines after lines
 nothing_behind : (left : List ℕ) (lines : List (List ℕ)) → Cuts left [] lines → (lines ≡ []) × (left ≡ [])

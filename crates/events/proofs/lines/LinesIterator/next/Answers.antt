@@ -1,15 +1,23 @@
-use Rattle.std.proofs.Common.{◌<◌, length, take, arith, false-eqb}
-use Rattle.events.proofs.Cutting.{ended_line, last_line, line_head}
+use Rattle.std.proofs.Common.{◌≡◌, length, get_or, take, min, arith, rules, tests, ap, ◌∙◌, subst, false-eqb}
+use Rattle.std.proofs.lemmas.List.{take_all}
+use Rattle.events.specs.Input.{NoNewline}
+use Rattle.events.proofs.Cutting.{no_newline, ended_line, last_line, line_head}
 use Rattle.events.proofs.lines.LinesIterator.next.Goals as goal
-use Rattle.events.proofs.lines.LinesIterator.next.Goals.{then-end-text, else-end-text}
+use Rattle.events.proofs.lines.LinesIterator.next.Goals.{in-Some, in-None}
 
 pub returns-clause-steps : goal.returns-clause-steps
 returns-clause-steps c =
-    let some : 0 < length c.args.self.now.rest.now = omega (arith, false-eqb (length c.args.self.now.rest.now) 0 c.if-is_empty.ensures) in (
-      take c.line_len-end.result c.args.self.now.rest.now,
-      line_head _ _ _ c.min.ensures,
-      elim c.if-end-text.branch [
-        | then-end-text w ↦ ended_line _ _ _ w.if-end-text.true w.behind-is c.line_len-end.ensures.plain (c.line_len-end.ensures.stops w.if-end-text.true)
-        | else-end-text w ↦ last_line _ _ _ some w.if-end-text.false w.behind-is c.line_len-end.ensures.plain
-      ],
-    )
+    let text = c.args.self.now.rest.now in
+    elim c.match-memchr.branch [
+      | in-Some w ↦
+          let found = w.in-Some.ensures in
+          let plain = no_newline w.in-Some.end text (λ k before within ten. found.0.before k (omega arith) before (search (rules, tests))) in
+          let newline : get_or text w.in-Some.end 0 ≡ 10 = search (rules, tests) in
+          let size = c.min.ensures ∙ ap (λ cut. min (length cut.0.now) 80) w.t-9-is in
+          rw w.t-9-is (take w.in-Some.end text, line_head _ _ size, ended_line text _ found.0.high plain newline)
+      | in-None w ↦
+          let none = w.in-None.ensures in
+          let plain = no_newline (length text) text (λ k before within ten. none k (omega arith) before (search (rules, tests))) in
+          let size = c.min.ensures ∙ ap (λ cut. min (length cut.0.now) 80) w.t-9-is in
+          rw w.t-9-is (text, line_head _ _ size, last_line text (omega (arith, false-eqb (length text) 0 c.if-is_empty.ensures)) (subst NoNewline (take_all _ text (omega arith)) plain))
+    ]
