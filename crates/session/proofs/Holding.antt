@@ -5,7 +5,7 @@ use Rattle.laws.specs.ByNumber.{Numbered, by_number}
 use Rattle.laws.specs.Broker as rules
 use Rattle.laws.specs.Broker.{holding}
 use Rattle.laws.specs.Calls.{Absent}
-use Rattle.laws.specs.Questions.{client_entries, price_entries}
+use Rattle.laws.specs.Questions.{price_entries}
 use Rattle.ledger.specs.Ledgers.{stack_of}
 use Rattle.pool.specs.declared.member.Member.{Member}
 use Rattle.pool.specs.declared.pool.Pool.{Pool}
@@ -34,9 +34,6 @@ module _ (b : Pool) (c : ℕ) where
     within : Outside 1 256 c → ⊥
     within (inl h) = omega (arith, h, there_numbered.0)
     within (inr h) = omega (arith, h, there_numbered.1)
-
-    pub holding_told : Clear (client_entries (view b) c)
-    holding_told = (within, (there, tt))
 
     pub price_told : (k : ℕ) → 1 ≤ k → k ≤ 4_096 → Clear (price_entries (view b) c k)
     price_told k low high = (within, (count, (there, tt)))
