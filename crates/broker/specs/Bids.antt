@@ -4,6 +4,7 @@
 -- Lists      what is listed of a client: its bid at its holding where it holds more than its minimum, and nothing else
 -- Listed     so it is for every number
 -- Relisted   one client was listed anew, and no other
+-- Lists-prop, Listed-prop   what is listed is so in one way at most
 use Rattle.std.specs.Prelude.{◌≡◌, ℕ, ◌≢◌, Some, None, Option}
 use Rattle.std.specs.Coded.{Π_prop, ×_prop, le_prop}
 use mathlib.Core.HLevel.{⊥_prop}

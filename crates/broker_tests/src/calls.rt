@@ -1,4 +1,6 @@
 //! Calls on a broker in rows.
+// Kept: `rt` is what an assertion ends by, `broker` what is called, `rows` what is compared: a struct of them would be made
+// and taken apart in each test.
 use broker::Broker;
 use price::Price;
 use rules::{Admission, Answer, Call, Estimate, Quote, Refusal};
@@ -96,6 +98,7 @@ pub fn refuses<P: Price>(rt: &impl Abort, broker: &mut Broker<P>, rows: &[(Call,
 }
 
 /// A frame that a client gets, and its former owner, 0 for a free frame.
+// Kept: it is compared with a slip's plain numbers, which have 0 there.
 #[derive(Clone, Copy, PartialEq, Debug, Drop)]
 pub struct Got {
     pub frame: u32,

@@ -8,6 +8,7 @@ use std::process::Abort;
 use std::test::Fail;
 
 /// A frame that a client gets, and the client's price with it.
+// Kept: `session` prints values like these two; it stands above what is tested here.
 #[derive(Drop)]
 struct Grant {
     client: u32,
@@ -45,8 +46,11 @@ fn grants<P: Price>(rt: &impl Abort, broker: &mut Broker<P>, rows: &[Grant]) -> 
             let held = broker.holding(from)?;
             assert_eq!(rt; broker.price_at(from, held), Ok(over));
         }
-        let former = row.taken.map_or(0, |taken| taken.from);
-        asks(rt, broker, &[(row.client, taken(row.frame, former))]);
+        let got = Got {
+            frame: row.frame,
+            former: row.taken.map_or(0, |taken| taken.from),
+        };
+        asks(rt, broker, &[(row.client, Ok(got))]);
         let holding = broker.holding(row.client)?;
         assert_eq!(rt; broker.price_at(row.client, holding), Ok(row.paying));
     }
@@ -137,6 +141,7 @@ fn session_under_the_share_price(rt: HostRuntime) -> Result<(), Fail> {
 }
 
 /// A price of the tests' own that borrows the price that it tells.
+// Kept: a broker takes any lawful price that borrows, and not only the loans that `price` makes prices.
 #[derive(Drop)]
 struct Lent<'a, P> {
     price: &'a P,

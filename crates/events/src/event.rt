@@ -38,7 +38,8 @@ fn event_of(k: EventKind, ns: [u32; 5]) -> Event
     ensures kind { kind result ≡ k }
     ensures numbers { numbers result ≡ take (count k) ns }
 {
-    // Kept: the project gives this form, a char match whose cases choose the count of numbers and the event.
+    // Kept: the letter chooses how many numbers are read, by a form that the project gives, so they are read before the
+    // event gives them names.
     let [a, b, c, d, e] = ns;
     match k {
         EventKind::Start => Event::Start { unit: a, frames: b },

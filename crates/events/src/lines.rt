@@ -12,7 +12,8 @@ const WIDTH: usize = 80;
 /// The lines of an input, cut by byte 10 alone, the first 80 bytes of each.
 ///
 /// Text after the last newline is a line unless it is empty.
-// Kept: `bstr`'s `lines` drop a `\r` too, and its `lines_with_terminator` keep the newline: `next` would still cut each.
+// Kept: `bstr`'s `lines` drop a `\r` too; its `lines_with_terminator`, and std's `split_inclusive`, which has no memchr,
+// keep the newline: `next` would still cut each.
 #[derive(Drop)]
 pub struct Lines<'a> {
     rest: &'a [u8],

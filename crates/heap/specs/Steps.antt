@@ -8,9 +8,10 @@
 -- Rises       the one at that place leads what stands below it, and may have to rise
 -- Sinks       what stands above that place leads the one at it, which may have to sink
 -- FirstBelow  a place lies right below another, and what stands at it leads all that do so
+-- Settled     the first n places are a heap, and as a map it is what they were before
 use Rattle.std.specs.Prelude.{◌≡◌, ℕ, ◌<◌, Bool, true, List, length, Some, ◌≢◌}
 use Rattle.heap.specs.declared.records.Record.{Record}
-use Rattle.heap.specs.Heaps.{owner_at, place_of, key_of, above}
+use Rattle.heap.specs.Heaps.{Heap, owner_at, place_of, key_of, keys, above}
 
 module _ {K : Type 0} where
   pub record Seated (xs ys : List (Record K)) (i o : ℕ) : Type 0 where
@@ -59,3 +60,8 @@ module _ {X : Type 0} (le : X → X → Bool) where
   pub record FirstBelow (f : ℕ → X) (j c n : ℕ) : Type 0 where
     pub below : Below n j c
     pub leads : (k : ℕ) → Below n j k → le (f c) (f k) ≡ true
+
+module _ {K : Type 0} (le : K → K → Bool) where
+  pub record Settled (xs ys : List (Record K)) (n : ℕ) : Type 0 where
+    pub heap : Heap le ys n
+    pub map : (o : ℕ) → keys ys n o ≡ keys xs n o

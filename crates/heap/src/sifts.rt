@@ -1,9 +1,7 @@
 //! The ways of an owner through the heap to where its key belongs.
-// Kept: `heap` and `map` stand in three contracts: a word for both would be a record of these two, and each proof above
-// takes them by the same names.
-ghost use Rattle.std.specs.Prelude.{◌≡◌, ℕ, ◌+◌, ◌*◌, ◌<◌};
-ghost use Rattle.heap.specs.Heaps.{Heap, Placed, keys, key_at, none_first};
-ghost use Rattle.heap.specs.Steps.{Gap, Rises, Sinks, FirstBelow};
+ghost use Rattle.std.specs.Prelude.{◌≡◌, ◌+◌, ◌*◌, ◌<◌};
+ghost use Rattle.heap.specs.Heaps.{Placed, key_at, none_first};
+ghost use Rattle.heap.specs.Steps.{Gap, Rises, Sinks, FirstBelow, Settled};
 
 use super::records::{exchange, leads_at};
 use super::{Order, Record};
@@ -11,8 +9,7 @@ use super::{Order, Record};
 /// Moves the owner at place i up past those whose keys come later.
 pub(crate) fn sift_up<K: Order>(records: &mut [Record<K>], count: usize, i: usize)
     requires { Placed records.old count × (i < count) × Rises (none_first K.Order.leads) (key_at records.old) i count }
-    ensures heap { Heap K.Order.leads records.new count }
-    ensures map { (o : ℕ) → keys records.new count o ≡ keys records.old count o }
+    ensures { Settled K.Order.leads records.old records.new count }
 {
     let mut at = i;
     // Kept: each turn halves the place and may be the last, so no range has these places, and an iterator of them would
@@ -44,8 +41,7 @@ fn first_below<K: Order>(records: &[Record<K>], count: usize, i: usize) -> usize
 /// Moves the owner at place i down past those whose keys come earlier.
 pub(crate) fn sift_down<K: Order>(records: &mut [Record<K>], count: usize, i: usize)
     requires { Placed records.old count × (i < count) × Sinks (none_first K.Order.leads) (key_at records.old) i count }
-    ensures heap { Heap K.Order.leads records.new count }
-    ensures map { (o : ℕ) → keys records.new count o ≡ keys records.old count o }
+    ensures { Settled K.Order.leads records.old records.new count }
 {
     let mut at = i;
     // Kept: each turn goes on to the left or to the right below, as the keys say, or is the last, so no range has these
@@ -63,8 +59,7 @@ pub(crate) fn sift_down<K: Order>(records: &mut [Record<K>], count: usize, i: us
 /// Brings the owner at place i, whose key alone may be out of order, to where it belongs.
 pub(crate) fn settle<K: Order>(records: &mut [Record<K>], count: usize, i: usize)
     requires { Placed records.old count × (i < count) × Gap (none_first K.Order.leads) (key_at records.old) i count }
-    ensures heap { Heap K.Order.leads records.new count }
-    ensures map { (o : ℕ) → keys records.new count o ≡ keys records.old count o }
+    ensures { Settled K.Order.leads records.old records.new count }
 {
     if i > 0 && !leads_at(records, count, (i - 1) / 2, i) {
         sift_up(records, count, i);

@@ -3,7 +3,7 @@
 -- Pool         as in the code
 -- client_of    a client as the rules speak of it, of what is noted of it and its stack
 -- view         the pool as the rules speak of it
--- Noted        what is noted of a client in the table
+-- AdmittedAs   a client is admitted, and this is noted of it
 -- height       how many frames lie in a client's stack, and for 0 in the free stack
 -- Steps        a call on a pool is a step of the rules, under every price
 -- Source       where the frame of an ask may come from: the free stack, told as 0, or a client that has to give one up
@@ -38,8 +38,8 @@ view b =
       passage = b.passage;
     }
 
-abbrev pub Noted : Pool → ℕ → Member → Type 0
-Noted b c x = by_number b.members c ≡ Some x
+abbrev pub AdmittedAs : Pool → ℕ → Member → Type 0
+AdmittedAs b c x = by_number b.members c ≡ Some x
 
 abbrev pub height : Pool → ℕ → ℕ
 height b o = length (stack_of b.ledger o)

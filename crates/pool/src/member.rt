@@ -22,7 +22,7 @@ pub struct Member {
 }
 
 /// Sums over all clients.
-// Kept: one loop takes both; a function for each would be two loops that differ in a field.
+// Kept: the project gives the loop over the shares; one over the minimums alone would be its twin, and so would its proof.
 #[derive(Clone, Copy, Drop)]
 pub struct Totals {
     pub shares: u64,

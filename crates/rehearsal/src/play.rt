@@ -21,7 +21,7 @@ fn slip(answer: Told) -> Option<SlipNumbers> {
 /// The brokers that play, and where their answers are printed.
 #[derive(Drop)]
 pub struct Play<'a, P: Price, W: Write> {
-    pub brokers: &'a mut [Broker<P>],
+    pub brokers: &'a mut [Broker<P>; BROKERS],
     pub out: &'a mut W,
 }
 
@@ -74,7 +74,7 @@ impl<P: Price, W: Write> Play<'_, P, W> {
     }
 
     /// Plays calls one after the other.
-    fn calls(&mut self, calls: &[Call]) -> io::Result<()> {
+    pub fn calls(&mut self, calls: &[Call]) -> io::Result<()> {
         for call in calls {
             self.call(*call)?;
         }
@@ -97,7 +97,7 @@ impl<P: Price, W: Write> Play<'_, P, W> {
 
     /// A passage on each broker, in which other calls wait and wrong slips are refused: client 1 hands a frame back and
     /// asks for it again; before the slip is delivered, client 2 asks, the clock is set, and a slip of unit 8 comes.
-    fn passage(&mut self) -> io::Result<()> {
+    pub fn passage(&mut self) -> io::Result<()> {
         self.call(Call::HandBack { client: 1 })?;
         let answers = self.tell(Call::Ask { client: 1 })?;
         let wrong = SlipNumbers {
@@ -115,17 +115,14 @@ impl<P: Price, W: Write> Play<'_, P, W> {
         self.tell_delivery(&answers)
     }
 
-    /// Plays the calls of a day, after which the clients ask until no broker grants anything.
-    pub fn day(&mut self, name: &str, calls: &[Call]) -> io::Result<()> {
+    /// Plays what a day has, after which the clients ask until no broker grants anything.
+    pub fn day<F: FnOnce(&mut Self) -> io::Result<()>>(
+        &mut self,
+        name: &str,
+        play: F,
+    ) -> io::Result<()> {
         writeln!(self.out, "{name}")?;
-        self.calls(calls)?;
-        self.settle()
-    }
-
-    /// Plays a passage for a day, and the same asks after it.
-    pub fn day_of_passage(&mut self, name: &str) -> io::Result<()> {
-        writeln!(self.out, "{name}")?;
-        self.passage()?;
+        play(self)?;
         self.settle()
     }
 }

@@ -24,7 +24,8 @@ pub(crate) enum Stage {
 pub struct Run<'a, P: Price> {
     session: Session<P>,
     lines: Lines<'a>,
-    // Kept: the run steps its lines itself; `Enumerate` would count them in usize from 0, and a line's number is a u64.
+    // Kept: what is still printed is said of the number and of what is left of the input; `(1u64..).zip(lines)` has both
+    // inside, and `Enumerate` counts in usize from 0.
     number: u64,
     stage: Stage,
     // Kept: without it a run's drop fails: "it was not told which modules hold the type `broker::broker::Broker`".

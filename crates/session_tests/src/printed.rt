@@ -6,13 +6,14 @@ use std::process::Abort;
 use std::test::Fail;
 use text::Line;
 
-/// A price of class 0, and the largest numbers that a quote can have.
+/// A price of class 0.
 const LOW: Quote = Quote {
     class: 0,
     top: 100,
     bottom: 3,
 };
 
+/// The largest numbers that a quote can have.
 const LARGEST: Quote = Quote {
     class: 255,
     top: u32::MAX,

@@ -2,7 +2,7 @@
 ghost use Rattle.std.specs.Prelude.{◌≡◌};
 ghost use Rattle.rules.specs.Refusals.{Replies};
 ghost use Rattle.laws.specs.Calls.{HandBack, Leave, SetEstimate, Done, Frame, Count, caller_entries, estimate_entries, answered};
-ghost use Rattle.pool.specs.View.{view, Noted, Steps};
+ghost use Rattle.pool.specs.View.{view, AdmittedAs, Steps};
 
 use super::Pool;
 use super::questions::place;
@@ -13,7 +13,7 @@ use rules::{Estimate, Refusal};
 impl Pool {
     /// What is noted of a client that may call: while no passage is open, and the client is admitted.
     pub(crate) fn caller(&self, client: u32) -> Result<Member, Refusal>
-        ensures { Replies (caller_entries (view self.now) client) (Noted self.now client) result }
+        ensures { Replies (caller_entries (view self.now) client) (AdmittedAs self.now client) result }
     {
         let place = place(client)?;
         if self.passage.is_some() {
@@ -50,7 +50,7 @@ impl Pool {
 
     /// What is noted of a client whose estimate may be set.
     fn estimable(&self, client: u32, estimate: Estimate) -> Result<Member, Refusal>
-        ensures { Replies (estimate_entries (view self.now) client estimate) (Noted self.now client) result }
+        ensures { Replies (estimate_entries (view self.now) client estimate) (AdmittedAs self.now client) result }
     {
         let member = self.caller(client)?;
         if estimate.active > self.ledger.frames() as u32 {
@@ -69,8 +69,8 @@ impl Pool {
         ensures { Steps self.old (SetEstimate client estimate) (answered (λ _. Done) result) self.new }
     {
         let mut member = self.estimable(client, estimate)?;
-        // Kept: `..member` is refused where a struct has ghost fields (unsupported-ghost-field-base), and a change in place
-        // would have a case for a client that is not there.
+        // Kept: `..member` is refused where a struct has ghost fields (unsupported-ghost-field-base), and a change in place, by
+        // `as_mut().unwrap()`, is not covered by the borrow checker.
         member.estimate = Some(estimate);
         self.members[client as usize - 1] = Some(member);
         self.ends.put(client as usize, End { tick: estimate.end });

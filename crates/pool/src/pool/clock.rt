@@ -3,7 +3,7 @@ ghost use Rattle.std.specs.Prelude.{◌≡◌, ℕ, Some, MatchOption};
 ghost use Rattle.rules.specs.Refusals.{Replies};
 ghost use Rattle.laws.specs.ByNumber.{Numbered};
 ghost use Rattle.laws.specs.Calls.{clock_entries, ended, ends};
-ghost use Rattle.pool.specs.View.{view, Noted};
+ghost use Rattle.pool.specs.View.{view, AdmittedAs};
 ghost use Rattle.pool.specs.Clocks.{Drops, at_tick};
 
 use super::Pool;
@@ -26,7 +26,7 @@ impl Pool {
 
     /// The client whose estimate ends first, if it ends by this tick, and what is noted of that client.
     fn first_ended(&self, tick: u32) -> Option<(usize, Member)>
-        ensures { MatchOption result ((c : ℕ) → ends tick ((view self.now).clients c) ≡ 0) (λ p. Numbered p.0 × Noted self.now p.0 p.1 × (ended tick p.1.estimate ≡ 1)) }
+        ensures { MatchOption result ((c : ℕ) → ends tick ((view self.now).clients c) ≡ 0) (λ p. Numbered p.0 × AdmittedAs self.now p.0 p.1 × (ended tick p.1.estimate ≡ 1)) }
     {
         let (client, _) = self.ends.root().filter(|(_, end)| end.tick <= tick)?;
         let member = self.members[client - 1].unwrap();
@@ -38,7 +38,7 @@ impl Pool {
         ensures { Drops tick (view self.old) result (view self.new) }
     {
         let (client, mut member) = self.first_ended(tick)?;
-        // Kept: as in `estimate`: `..member` is refused, and a change in place would have a case for nobody.
+        // Kept: as in `estimate`: neither `..member` nor a change in place is taken.
         member.estimate = None;
         self.members[client - 1] = Some(member);
         self.ends.take(client);

@@ -2,7 +2,7 @@
 ghost use Rattle.std.specs.Prelude.{◌≡◌};
 ghost use Rattle.rules.specs.Refusals.{Replies};
 ghost use Rattle.laws.specs.Calls.{Absent, asker_entries, slip as slip-of};
-ghost use Rattle.pool.specs.View.{view, Noted, Grants, Opens};
+ghost use Rattle.pool.specs.View.{view, AdmittedAs, Grants, Opens};
 
 use super::Pool;
 use crate::member::Member;
@@ -12,7 +12,7 @@ impl Pool {
     /// What is noted of a client that may ask. A client number outside 1 to 256 is refused, then any client while a
     /// passage is open, one that is not admitted, and one that holds its maximum.
     pub fn asker(&self, client: u32) -> Result<Member, Refusal>
-        ensures { Replies (asker_entries (view self.now) client) (Noted self.now client) result }
+        ensures { Replies (asker_entries (view self.now) client) (AdmittedAs self.now client) result }
     {
         let member = self.caller(client)?;
         if self.height(client) >= member.maximum {

@@ -6,7 +6,7 @@ ghost use Rattle.laws.specs.ByNumber.{total, Numbered, by_number};
 ghost use Rattle.laws.specs.Division.{minimum_of};
 ghost use Rattle.laws.specs.Broker.{holding as held, present, all_shares, share_of};
 ghost use Rattle.laws.specs.Questions.{client_entries};
-ghost use Rattle.pool.specs.View.{view, height, Noted, NextClient};
+ghost use Rattle.pool.specs.View.{view, height, AdmittedAs, NextClient};
 
 use super::Pool;
 use crate::member::{Member, Totals};
@@ -25,7 +25,7 @@ pub(super) fn place(client: u32) -> Result<usize, Refusal>
 impl Pool {
     /// What is noted of a client. A client number outside 1 to 256 is refused, and then a client that is not admitted.
     pub fn member(&self, client: u32) -> Result<Member, Refusal>
-        ensures { Replies (client_entries (view self.now) client) (Noted self.now client) result }
+        ensures { Replies (client_entries (view self.now) client) (AdmittedAs self.now client) result }
     {
         self.members[place(client)?].ok_or(Refusal::NotAdmitted)
     }

@@ -1,4 +1,6 @@
 //! The printed lines that tell a price: a grant, and a client in the end report.
+// Kept: `short` tells how long each part is, since its numbers have 32 bits; a contract knows that of its parameters, and a
+// lemma would have to be told it of each.
 ghost use Rattle.std.specs.Prelude.{◌≡◌, ◌≤◌, ◌++◌, length};
 ghost use Rattle.session.specs.Printed.{client_line, grant_line, granted, holding};
 ghost use Rattle.text.specs.Texts.{cut, spelt};
