@@ -32,11 +32,11 @@ fn main(rt: HostRuntime) -> anyhow::Result<()> {
         brokers: &mut brokers,
         out: &mut out,
     };
-    play.day("monday", |play| play.calls(&monday()))?;
-    play.day("tuesday", |play| play.calls(&tuesday()))?;
-    play.day("wednesday", |play| play.calls(&wednesday()))?;
-    play.day("thursday", |play| play.passage())?;
-    play.day("friday", |play| play.calls(&friday()))?;
+    play.day("monday", &monday())?;
+    play.day("tuesday", &tuesday())?;
+    play.day("wednesday", &wednesday())?;
+    play.day_of_passage("thursday")?;
+    play.day("friday", &friday())?;
     for (name, broker) in ["share", "taxed", "class"].iter().zip(&brokers) {
         show_rest(name, broker, &mut out)?;
     }

@@ -74,7 +74,7 @@ impl<P: Price, W: Write> Play<'_, P, W> {
     }
 
     /// Plays calls one after the other.
-    pub fn calls(&mut self, calls: &[Call]) -> io::Result<()> {
+    fn calls(&mut self, calls: &[Call]) -> io::Result<()> {
         for call in calls {
             self.call(*call)?;
         }
@@ -97,7 +97,7 @@ impl<P: Price, W: Write> Play<'_, P, W> {
 
     /// A passage on each broker, in which other calls wait and wrong slips are refused: client 1 hands a frame back and
     /// asks for it again; before the slip is delivered, client 2 asks, the clock is set, and a slip of unit 8 comes.
-    pub fn passage(&mut self) -> io::Result<()> {
+    fn passage(&mut self) -> io::Result<()> {
         self.call(Call::HandBack { client: 1 })?;
         let answers = self.tell(Call::Ask { client: 1 })?;
         let wrong = SlipNumbers {
@@ -115,14 +115,18 @@ impl<P: Price, W: Write> Play<'_, P, W> {
         self.tell_delivery(&answers)
     }
 
-    /// Plays what a day has, after which the clients ask until no broker grants anything.
-    pub fn day<F: FnOnce(&mut Self) -> io::Result<()>>(
-        &mut self,
-        name: &str,
-        play: F,
-    ) -> io::Result<()> {
+    /// Plays the calls of a day, after which the clients ask until no broker grants anything.
+    // Kept: one `day` that takes a closure over the play is refused: "cannot state an item with such a type in a bound yet".
+    pub fn day(&mut self, name: &str, calls: &[Call]) -> io::Result<()> {
         writeln!(self.out, "{name}")?;
-        play(self)?;
+        self.calls(calls)?;
+        self.settle()
+    }
+
+    /// Plays a passage for a day, and the same asks after it.
+    pub fn day_of_passage(&mut self, name: &str) -> io::Result<()> {
+        writeln!(self.out, "{name}")?;
+        self.passage()?;
         self.settle()
     }
 }

@@ -3,7 +3,6 @@ use broker::Broker;
 use price::Price;
 
 mod asks;
-mod calls;
 mod lines;
 mod report;
 

@@ -40,13 +40,30 @@ impl<P: Price> Session<P> {
         ensures { Performed self.old.broker event result self.new.broker }
     {
         match event {
-            Event::Start { unit, frames } => self.start(unit, frames),
-            Event::Admit(asked) => self.admit(asked),
+            Event::Start { unit, frames } => self
+                .broker
+                .start(unit, frames)
+                .map(|()| Printed::Pool { unit, frames }),
+            Event::Admit(asked) => self.broker.admit(asked).map(|()| Printed::Admit {
+                client: asked.client,
+            }),
             Event::Ask { client } => self.ask(client),
-            Event::HandBack { client } => self.hand_back(client),
-            Event::Leave { client } => self.leave(client),
-            Event::Estimate { client, estimate } => self.estimate(client, estimate),
-            Event::Clock { tick } => self.clock(tick),
+            Event::HandBack { client } => self
+                .broker
+                .hand_back(client)
+                .map(|frame| Printed::Back { client, frame }),
+            Event::Leave { client } => self
+                .broker
+                .leave(client)
+                .map(|frames| Printed::Leave { client, frames }),
+            Event::Estimate { client, estimate } => self
+                .broker
+                .estimate(client, estimate)
+                .map(|()| Printed::Estimate { client }),
+            Event::Clock { tick } => self
+                .broker
+                .clock(tick)
+                .map(|ended| Printed::Clock { tick, ended }),
         }
     }
 
