@@ -21,7 +21,8 @@ fn slip(answer: Told) -> Option<SlipNumbers> {
 /// The brokers that play, and where their answers are printed.
 #[derive(Drop)]
 pub struct Play<'a, P: Price, W: Write> {
-    pub brokers: &'a mut [Broker<P>; BROKERS],
+    // Kept: of a lent array of BROKERS it stayed open that it is lent to `rehearse` as a slice (`whole_as_slice`).
+    pub brokers: &'a mut [Broker<P>],
     pub out: &'a mut W,
 }
 
