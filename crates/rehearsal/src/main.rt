@@ -37,6 +37,7 @@ fn main(rt: HostRuntime) -> anyhow::Result<()> {
     play.day("wednesday", &wednesday())?;
     play.day_of_passage("thursday")?;
     play.day("friday", &friday())?;
+    // Kept: the names stand beside the brokers, since `rehearse` takes a slice of brokers alone.
     for (name, broker) in ["share", "taxed", "class"].iter().zip(&brokers) {
         show_rest(name, broker, &mut out)?;
     }
