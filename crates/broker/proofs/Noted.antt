@@ -1,8 +1,6 @@
 -- What is noted of a client in the pool, and what the rules say of it.
-use Rattle.std.proofs.Common.{◌≡◌, ℕ, ◌<◌, ◌≤◌, eqb, length, Some, Ok, Err, Option, Result, sym, refl, ap, ◌∙◌, subst, inl, inr, arith}
+use Rattle.std.proofs.Common.{◌≡◌, ℕ, ◌<◌, ◌≤◌, eqb, length, Some, Option, sym, ap, ◌∙◌, subst, arith}
 use Rattle.std.specs.Map.{update}
-use Rattle.rules.specs.declared.refusal.Refusal.{Refusal}
-use Rattle.rules.specs.Refusals.{First, Replies}
 use Rattle.rules.specs.Offers.{Meaning}
 use Rattle.rules.specs.Rank.{bid_at}
 use Rattle.rules.specs.Laws.{Made}
@@ -10,8 +8,6 @@ use Rattle.laws.specs.ByNumber.{put, by_number}
 use Rattle.laws.specs.Division.{terms, minimum_of, bid_of}
 use Rattle.laws.specs.Broker as rules
 use Rattle.laws.specs.Broker.{present, holding, maximum_of, terms_of, Beyond}
-use Rattle.laws.specs.Questions.{client_entries}
-use Rattle.laws.proofs.Kept.{none_some}
 use Rattle.laws.proofs.Puts.{put_at, put_off}
 use Rattle.ledger.specs.Ledgers.{stack_of}
 use Rattle.ledger.proofs.Ledgers.{few_frames, holding_few}
@@ -19,7 +15,7 @@ use Rattle.pool.specs.declared.member.Member.{Member}
 use Rattle.pool.specs.Members.{offer_at}
 use Rattle.pool.specs.declared.pool.Pool.{Pool}
 use Rattle.pool.specs.View.{client_of, view}
-use Rattle.pool.proofs.Grants.{holder, noted_numbered}
+use Rattle.pool.proofs.Grants.{noted_numbered}
 use Rattle.pool.proofs.Ticks.{update_put}
 use Rattle.price.specs.declared.key.Ranked.{Ranked}
 use Rattle.price.specs.Keys.{Keyed, KeyOf}
@@ -55,20 +51,6 @@ module _ (b : Pool) (c : ℕ) (x : Member) (e : by_number b.members c ≡ Some x
 
   pub noted_few : length (stack_of b.ledger c) ≤ 4_096
   noted_few = omega (arith, few_frames b.ledger, holding_few b.ledger c noted_owner)
-
--- who is refused as a member holds nothing beyond its minimum
-pub not_beyond : (b : Pool) (c : ℕ) (r : Refusal) → First (client_entries (view b) c) r → Beyond (view b) c → ⊥
-not_beyond b c r h far = refuse h (holder (by_number b.members c) (stack_of b.ledger c) _ far)
-  where
-    refuse : First (client_entries (view b) c) r → (x : Member) × (by_number b.members c ≡ Some x) → ⊥
-    refuse (inl (inl low, _)) (x, e) = omega (arith, noted_numbered b.members b.places c x e)
-    refuse (inl (inr high, _)) (x, e) = omega (arith, noted_numbered b.members b.places c x e)
-    refuse (inr (_, inl (none, _))) (x, e) = none_some none (ap (λ (o : Option Member). client_of o (stack_of b.ledger c)) e)
-    refuse (inr (_, inr (_, none))) (x, e) = none
-
-pub refused_not_beyond : (b : Pool) (c : ℕ) (Q : Member → Type 0) (r : Result Member Refusal) → Replies (client_entries (view b) c) Q r → ((x : Member) → r ≡ Ok x → ⊥) → Beyond (view b) c → ⊥
-refused_not_beyond b c Q (Ok x) h never far = never x refl
-refused_not_beyond b c Q (Err r) h never far = not_beyond b c r h far
 
 -- a client whose listed bid is replaced by what it bids now, or taken out where it bids nothing, is listed anew
 pub anew : (m : Meaning) (v : rules.Broker) (c : ℕ) (w : Option Ranked) (before after : Payers) → ((d : ℕ) → listed after d ≡ update eqb (listed before) c w d) → Lists m v c w → Relisted m v c before after

@@ -1,7 +1,5 @@
 -- From the words of a line to its letter and its numbers.
-use Rattle.std.proofs.Common.{◌≡◌, ℕ, ◌+◌, ◌^◌, ◌<◌, ◌≤◌, List, [], ◌∷◌, ◌++◌, length, drop, sym, ap, ◌∙◌, subst, append_assoc, arith}
-use Rattle.std.proofs.slice.Lists.{all_by_recursion_push}
-use Rattle.std.proofs.lemmas.List.{flat_map_more, length-append}
+use Rattle.std.proofs.Common.{◌≡◌, ℕ, ◌+◌, ◌<◌, ◌≤◌, List, [], ◌∷◌, ◌++◌, length, drop, sym, ap, ◌∙◌, subst, arith}
 use Rattle.rules.specs.declared.refusal.Fault.{Fault}
 use Rattle.rules.specs.declared.refusal.FaultKind.TheVariants as fault
 use Rattle.events.specs.declared.word.Due.TheVariants as due
@@ -9,8 +7,8 @@ use Rattle.events.specs.declared.word.Word.{Word}
 use Rattle.events.specs.declared.word.Word.TheVariants as word
 use Rattle.events.specs.Faults.{Begins, Ended, FirstFault, no_letter, fault_at}
 use Rattle.events.specs.Faults as faults
-use Rattle.events.specs.Grammar.{EventKind, Start, Admit, Ask, HandBack, Leave, Estimate, Clock, letter, count, NoDigit, spaced, spelled, Missing}
-use Rattle.events.specs.Reading.{Behind, Found, Missed, NextNumber, NoNextNumber, no_space, no_number, part}
+use Rattle.events.specs.Grammar.{EventKind, Start, Admit, Ask, HandBack, Leave, Estimate, Clock, count, Missing}
+use Rattle.events.specs.Reading.{Behind, Found, Missed, NoNextNumber, no_space, no_number, part}
 
 pub space_missed : (l : List ℕ) (at : ℕ) (f : Fault) (next : ℕ) → Missed due.Separator l at f next → NoNextNumber l at f
 space_missed l at f next m = subst (NoNextNumber l at) (sym m.fault) (no_space m.missing)
@@ -33,14 +31,6 @@ letter_missed l at f next start missed =
     subst (FirstFault l) (sym (missed.fault ∙ ap (λ n. fault_at fault.Letter (n + 1)) start))
     (no_letter (subst (λ n. Missing due.Letter (drop n l)) start missed.missing))
 
--- a letter and some numbers, and then one number more
-spelled_more : (k : EventKind) (ns : List ℕ) (n : ℕ) → spelled k ns ++ spaced n ≡ spelled k (ns ++ n ∷ [])
-spelled_more k ns n = flat_map_more spaced (letter k ∷ []) ns n
-
-ended_more : (ns : List ℕ) (n : ℕ) (rest : List ℕ) → NoDigit rest → Ended (ns ++ n ∷ []) rest
-ended_more [] n rest h = h
-ended_more (m ∷ ns) n rest h = h
-
 pub count_few : (k : EventKind) → count k ≤ 5
 count_few Start = omega arith
 count_few Admit = omega arith
@@ -49,18 +39,6 @@ count_few HandBack = omega arith
 count_few Leave = omega arith
 count_few Estimate = omega arith
 count_few Clock = omega arith
-
-pub behind_more : (l : List ℕ) (k : EventKind) (ns : List ℕ) (at n next : ℕ) → Behind l k ns at → NextNumber l at n next → Behind l k (ns ++ n ∷ []) next
-behind_more l k ns at n next b more =
-    let longer = spelled_more k ns n in
-    record {
-      begins = record {
-        whole = b.begins.whole ∙ ap (λ xs. spelled k ns ++ xs) more.here ∙ sym (append_assoc (spelled k ns) (spaced n) (drop next l)) ∙ ap (λ xs. xs ++ drop next l) longer;
-        sized = all_by_recursion_push (λ m. m < 2 ^ 32) ns n b.begins.sized more.sized;
-        ended = ended_more ns n (drop next l) more.ended;
-      };
-      place = omega (arith, more.behind, b.place, length-append (spelled k ns) (spaced n), ap length longer);
-    }
 
 pub number_fault : (l m : List ℕ) (k : EventKind) (ns : List ℕ) (at : ℕ) (f : Fault) → m ≡ l → Behind l k ns at → length ns < count k → NoNextNumber m at f → FirstFault l f
 number_fault l m k ns at f same b few missed = go f (subst (λ bs. NoNextNumber bs at f) same missed)

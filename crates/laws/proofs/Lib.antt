@@ -18,5 +18,4 @@ pub mod Answered
 pub mod Worked
 pub mod Reached
 pub mod Table
-pub mod Rising
 pub mod Lines

@@ -1,8 +1,8 @@
 -- The frames of a stack go one by one onto the free stack.
-use Rattle.std.proofs.Common.{◌≡◌, ℕ, ◌+◌, ◌≤◌, List, [], ◌∷◌, ◌++◌, reverse, length, sym, ap, ◌∙◌, arith}
+use Rattle.std.proofs.Common.{◌≡◌, ℕ, ◌+◌, List, [], ◌∷◌, ◌++◌, reverse, length, sym, ap, ◌∙◌, arith}
 use mathlib.Core.List.{reverse-cons}
-use Rattle.std.proofs.lemmas.List.{append_assoc, nil_from_length}
-use Rattle.ledger.specs.Stacks.{Moved, Freed}
+use Rattle.std.proofs.lemmas.List.{append_assoc}
+use Rattle.ledger.specs.Stacks.{Moved}
 
 -- i frames of an owner have gone, with s at the start and t now
 pub record Going (s t : ℕ → List ℕ) (owner i : ℕ) : Type 0 where
@@ -16,14 +16,4 @@ one_more s t u owner i f g m =
       left = let a = g.left in let b = ap length m.taken in omega arith;
       free = ap (λ l. reverse (u owner) ++ l) m.given ∙ (sym (append_assoc (reverse (u owner)) (f ∷ []) (t 0)) ∙ (ap (λ l. l ++ t 0) (sym (reverse-cons f (u owner))) ∙ (ap (λ l. reverse l ++ t 0) (sym m.taken) ∙ g.free)));
       others = λ o n0 no. m.others o no n0 ∙ g.others o n0 no;
-    }
-
-pub all_gone : (s t : ℕ → List ℕ) (owner i n : ℕ) → n ≡ length (s owner) → n ≤ i → Going s t owner i → Freed s t owner n
-all_gone s t owner i n e past g =
-    let z : t owner ≡ [] = nil_from_length (t owner) (let a = g.left in omega arith) in
-    record {
-      counted = e;
-      emptied = z;
-      free = sym (ap (λ l. reverse l ++ t 0) z) ∙ g.free;
-      others = g.others;
     }

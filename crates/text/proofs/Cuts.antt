@@ -1,10 +1,9 @@
 -- A text that grows piece by piece, each time cut at 128 bytes, is what it would be had the whole been cut once.
-use Rattle.std.proofs.Common.{◌≡◌, ℕ, ◌+◌, ◌<◌, ◌≤◌, min, List, [], ◌++◌, length, take, Result, sym, ap, ◌∙◌, subst, ⊎_elim, append_assoc, arith}
+use Rattle.std.proofs.Common.{◌≡◌, ℕ, ◌+◌, ◌<◌, ◌≤◌, min, List, [], ◌++◌, length, take, sym, ap, ◌∙◌, ⊎_elim, append_assoc, arith}
 use Rattle.std.proofs.lemmas.List.{length-take-le, take_all, take-take, take-append-le}
 use Rattle.std.proofs.Math.Seq.{take-append-add}
 use Rattle.std.proofs.str.Laws.{order}
-use Rattle.rules.specs.declared.refusal.Refusal.{Refusal}
-use Rattle.text.specs.Texts.{Placed, cut}
+use Rattle.text.specs.Texts.{cut}
 
 -- what fits is kept whole
 pub cut_short : (bs : List ℕ) → length bs ≤ 128 → cut bs ≡ bs
@@ -45,10 +44,6 @@ kept_front bs more room k h e =
 -- a text that says some bytes, cut, says these and more bytes, cut, once they are put behind
 pub grown : {mid after : List ℕ} (bs more : List ℕ) → mid ≡ cut bs → after ≡ cut (mid ++ more) → after ≡ cut (bs ++ more)
 grown bs more e f = f ∙ ap (λ xs. cut (xs ++ more)) e ∙ cut_cut bs more
-
--- where the whole fits a text, the whole is written
-pub placed_whole : {said before after : List ℕ} {r : Result ℕ Refusal} (bs : List ℕ) → said ≡ cut bs → length bs ≤ 128 → Placed said before r after → Placed bs before r after
-placed_whole {said} {before} {after} {r} bs e fits placed = subst (λ xs. Placed xs before r after) (e ∙ cut_short bs fits) placed
 
 -- a new text, with a first piece
 pub first_piece : {start after : List ℕ} (piece : List ℕ) → start ≡ [] → after ≡ cut (start ++ piece) → after ≡ cut piece
