@@ -33,25 +33,25 @@ no_values EndNotAfterClock not = refl
 no_values TickBeforeClock not = refl
 no_values NotTheOpenSlip not = refl
 
--- the pieces of a malformed line's text, and those of any other refusal's
-abbrev malformed : ℕ → ℕ → ℕ → List ℕ
-malformed n k c = ((((codes "line " ++ decimal n) ++ codes " text ") ++ decimal k) ++ codes " at ") ++ decimal c
+-- the pieces of a malformed line's text behind another, and those of any other refusal's
+abbrev malformed_on : List ℕ → ℕ → ℕ → ℕ → List ℕ
+malformed_on start n k c = (((((start ++ codes "line ") ++ decimal n) ++ codes " text ") ++ decimal k) ++ codes " at ") ++ decimal c
 
-abbrev refused : ℕ → ℕ → List ℕ
-refused n r = ((codes "line " ++ decimal n) ++ codes " refused ") ++ decimal r
+abbrev refused_on : List ℕ → ℕ → ℕ → List ℕ
+refused_on start n r = (((start ++ codes "line ") ++ decimal n) ++ codes " refused ") ++ decimal r
 
-pub malformed_short : (n k c : ℕ) → length (decimal n) ≤ 20 → length (decimal k) ≤ 20 → length (decimal c) ≤ 20 → length (malformed n k c) ≤ 128
+pub malformed_short : (n k c : ℕ) → length (decimal n) ≤ 20 → length (decimal k) ≤ 20 → length (decimal c) ≤ 20 → length (malformed_on [] n k c) ≤ 128
 malformed_short n k c p q r = simp length-append (omega arith)
 
-pub refused_short : (n r : ℕ) → length (decimal n) ≤ 20 → length (decimal r) ≤ 20 → length (refused n r) ≤ 128
+pub refused_short : (n r : ℕ) → length (decimal n) ≤ 20 → length (decimal r) ≤ 20 → length (refused_on [] n r) ≤ 128
 refused_short n r p q = simp length-append (omega arith)
 
-pub text_pieces : (f : LineFault) (x : Fault) (k : ℕ) → f.refusal ≡ Malformed x → k ≡ kind_number x.kind → malformed f.line k x.column ≡ told f
-text_pieces f x k is kind =
-    ap (λ n. malformed f.line n x.column) kind
-    ∙ (simp append_assoc) ∙ sym (ap (λ r. codes "line " ++ (decimal f.line ++ reason (values r) (number r))) is)
+pub text_pieces : (start : List ℕ) (f : LineFault) (x : Fault) (k : ℕ) → f.refusal ≡ Malformed x → k ≡ kind_number x.kind → malformed_on start f.line k x.column ≡ start ++ told f
+text_pieces start f x k is kind =
+    ap (λ n. malformed_on start f.line n x.column) kind
+    ∙ (simp append_assoc) ∙ sym (ap (λ r. start ++ (codes "line " ++ (decimal f.line ++ reason (values r) (number r)))) is)
 
-pub refused_pieces : (f : LineFault) (n : ℕ) → ((x : Fault) → f.refusal ≡ Malformed x → ⊥) → n ≡ number f.refusal → refused f.line n ≡ told f
-refused_pieces f n not is =
-    ap (refused f.line) is
-    ∙ (simp append_assoc) ∙ sym (ap (λ vs. codes "line " ++ (decimal f.line ++ reason vs (number f.refusal))) (no_values f.refusal not))
+pub refused_pieces : (start : List ℕ) (f : LineFault) (n : ℕ) → ((x : Fault) → f.refusal ≡ Malformed x → ⊥) → n ≡ number f.refusal → refused_on start f.line n ≡ start ++ told f
+refused_pieces start f n not is =
+    ap (refused_on start f.line) is
+    ∙ (simp append_assoc) ∙ sym (ap (λ vs. start ++ (codes "line " ++ (decimal f.line ++ reason vs (number f.refusal)))) (no_values f.refusal not))

@@ -1,5 +1,5 @@
 //! Events, as lines say them.
-ghost use Rattle.std.specs.Prelude.{◌≡◌, ℕ, ◌^◌, ◌<◌, ◌≤◌, List, ◌∷◌, length, take, Ok, Result};
+ghost use Rattle.std.specs.Prelude.{◌≡◌, ℕ, ◌^◌, ◌<◌, ◌≤◌, List, ◌∷◌, ◌++◌, length, take, Ok, Result};
 ghost use Rattle.rules.specs.declared.refusal.Refusal.{Refusal};
 ghost use Rattle.events.specs.Faults.{Verdict};
 ghost use Rattle.events.specs.Grammar.{count, spaced};
@@ -84,38 +84,42 @@ pub fn read(line: &[u8]) -> Result<Event, Refusal>
     judge(line)
 }
 
-/// A letter and some numbers, each after one space.
-fn spell(letter: u8, numbers: &[u32]) -> Text
-    ensures line { length numbers.now ≤ 11 → spelt result ≡ letter ∷ flat_map spaced numbers.now }
+/// Puts a letter and some numbers, each after one space, behind a text.
+fn spell(text: &mut Text, letter: u8, numbers: &[u32])
+    ensures text { spelt text.new ≡ cut (spelt text.old ++ letter ∷ flat_map spaced numbers.now) }
+    ensures short { length numbers.now ≤ 11 → length (flat_map spaced numbers.now) ≤ 127 }
     ensures sized { AllByRecursion (λ n. n < 2 ^ 32) numbers.now }
 {
-    let mut text = Text::new();
     text.byte(letter);
     for n in numbers {
         text.byte(b' ');
         text.number(*n as u64);
     }
-    text
 }
 
 impl Line for Event {
     ghost spelling = { written };
 
-    fn line(&self) -> Text
-        ensures line { spelt result ≡ written self.now }
+    fn add_to(&self, text: &mut Text)
+        ensures short { length (written self.now) ≤ 128 }
+        ensures text { spelt text.new ≡ cut (spelt text.old ++ written self.now) }
         ensures sized { Sized self.now }
     {
         match *self {
-            Event::Start { unit, frames } => spell(b'S', &[unit, frames]),
-            Event::Admit(a) => spell(b'A', &[a.client, a.shares, a.class, a.minimum, a.maximum]),
-            Event::Ask { client } => spell(b'Q', &[client]),
-            Event::HandBack { client } => spell(b'H', &[client]),
-            Event::Leave { client } => spell(b'L', &[client]),
+            Event::Start { unit, frames } => spell(text, b'S', &[unit, frames]),
+            Event::Admit(a) => spell(
+                text,
+                b'A',
+                &[a.client, a.shares, a.class, a.minimum, a.maximum],
+            ),
+            Event::Ask { client } => spell(text, b'Q', &[client]),
+            Event::HandBack { client } => spell(text, b'H', &[client]),
+            Event::Leave { client } => spell(text, b'L', &[client]),
             Event::Estimate {
                 client,
                 estimate: Estimate { active, end },
-            } => spell(b'E', &[client, active, end]),
-            Event::Clock { tick } => spell(b'T', &[tick]),
+            } => spell(text, b'E', &[client, active, end]),
+            Event::Clock { tick } => spell(text, b'T', &[tick]),
         }
     }
 }
@@ -128,6 +132,8 @@ impl Event {
         ensures placed { Placed (written self.now) out.old result out.new }
         ensures again { (v : Result Event Refusal) → Verdict (written self.now) v → v ≡ Ok self.now }
     {
-        self.line().write(out)
+        let mut text = Text::new();
+        self.add_to(&mut text);
+        text.write(out)
     }
 }

@@ -1,7 +1,7 @@
 //! A line that was refused, with its number.
-ghost use Rattle.std.specs.Prelude.{◌≡◌, ◌≤◌, length};
+ghost use Rattle.std.specs.Prelude.{◌≡◌, ◌≤◌, ◌++◌, length};
 ghost use Rattle.events.specs.Told.{told};
-ghost use Rattle.text.specs.Texts.{Placed, cut, spelt};
+ghost use Rattle.text.specs.Texts.{cut, spelt};
 
 use rules::Refusal;
 use text::{Line, Text};
@@ -17,8 +17,7 @@ pub struct LineFault {
 impl Line for LineFault {
     ghost spelling = { told };
 
-    fn line(&self) -> Text {
-        let mut text = Text::new();
+    fn add_to(&self, text: &mut Text) {
         text.bytes(b"line ");
         text.number(self.line);
         match self.refusal {
@@ -33,6 +32,5 @@ impl Line for LineFault {
                 text.number(refusal.number() as u64);
             }
         }
-        text
     }
 }

@@ -1,4 +1,6 @@
 //! The lines that a broker's program prints, each as a value.
+#![tactic(auto, using(crate::proofs::PrintedPieces::behind))]
+
 ghost use Rattle.session.specs.Printed.{printed_line};
 
 use events::LineFault;
@@ -62,32 +64,30 @@ pub enum Printed {
 impl Line for Printed {
     ghost spelling = { printed_line };
 
-    fn line(&self) -> Text {
-        let mut text = Text::new();
+    fn add_to(&self, text: &mut Text) {
         match *self {
             Printed::Pool { unit, frames } => {
-                add_number(&mut text, b"pool ", unit);
-                add_number(&mut text, b" frames ", frames);
+                add_number(text, b"pool ", unit);
+                add_number(text, b" frames ", frames);
             }
-            Printed::Admit { client } => add_number(&mut text, b"admit ", client),
-            Printed::Grant(grant) => add_grant(&mut text, grant),
+            Printed::Admit { client } => add_number(text, b"admit ", client),
+            Printed::Grant(grant) => add_grant(text, grant),
             Printed::Back { client, frame } => {
-                add_number(&mut text, b"back ", client);
-                add_number(&mut text, b" frame ", frame);
+                add_number(text, b"back ", client);
+                add_number(text, b" frame ", frame);
             }
             Printed::Leave { client, frames } => {
-                add_number(&mut text, b"leave ", client);
-                add_number(&mut text, b" frames ", frames);
+                add_number(text, b"leave ", client);
+                add_number(text, b" frames ", frames);
             }
-            Printed::Estimate { client } => add_number(&mut text, b"estimate ", client),
+            Printed::Estimate { client } => add_number(text, b"estimate ", client),
             Printed::Clock { tick, ended } => {
-                add_number(&mut text, b"clock ", tick);
-                add_number(&mut text, b" ended ", ended);
+                add_number(text, b"clock ", tick);
+                add_number(text, b" ended ", ended);
             }
-            Printed::Refused(fault) => return fault.line(),
-            Printed::Free { frames } => add_number(&mut text, b"end free ", frames),
-            Printed::Client { client, held } => add_client(&mut text, client, held),
+            Printed::Refused(fault) => fault.add_to(text),
+            Printed::Free { frames } => add_number(text, b"end free ", frames),
+            Printed::Client { client, held } => add_client(text, client, held),
         }
-        text
     }
 }

@@ -45,6 +45,6 @@ kept_front bs more room k h e =
 pub grown : {mid after : List ℕ} (bs more : List ℕ) → mid ≡ cut bs → after ≡ cut (mid ++ more) → after ≡ cut (bs ++ more)
 grown bs more e f = f ∙ ap (λ xs. cut (xs ++ more)) e ∙ cut_cut bs more
 
--- a new text, with a first piece
-pub first_piece : {start after : List ℕ} (piece : List ℕ) → start ≡ [] → after ≡ cut (start ++ piece) → after ≡ cut piece
-first_piece piece e f = f ∙ ap (λ xs. cut (xs ++ piece)) e
+-- a new text, with one piece that fits it
+pub one_piece : {start after : List ℕ} (piece : List ℕ) → start ≡ [] → after ≡ cut (start ++ piece) → length piece ≤ 128 → after ≡ piece
+one_piece piece s e fits = e ∙ ap (λ xs. cut (xs ++ piece)) s ∙ cut_short piece fits

@@ -1,7 +1,7 @@
 //! Values that are each a line of text.
 ghost use Rattle.std.specs.Prelude.{◌≡◌, ℕ, ◌≤◌, List, [], ◌∷◌, ◌++◌, length, OnOk};
 ghost use Rattle.std.specs.Io.KnownBytes.{Appends};
-ghost use Rattle.text.specs.Texts.{Placed, spelt};
+ghost use Rattle.text.specs.Texts.{Placed, cut, spelt};
 
 use crate::Text;
 use rules::Refusal;
@@ -14,9 +14,19 @@ pub trait Line {
     /// The bytes of the line, without a newline.
     ghost spelling: { Self → List ℕ };
 
+    /// Puts the line, without a newline, behind a text. It takes 128 bytes at most.
+    fn add_to(&self, text: &mut Text)
+        ensures short { length (spelling self.now) ≤ 128 }
+        ensures text { spelt text.new ≡ cut (spelt text.old ++ spelling self.now) };
+
     /// The line, without a newline.
-    fn line(&self) -> Text
-        ensures { spelt result ≡ spelling self.now };
+    final fn line(&self) -> Text
+        ensures { spelt result ≡ spelling self.now }
+    {
+        let mut text = Text::new();
+        self.add_to(&mut text);
+        text
+    }
 
     /// Writes the line, without a newline, to the front of a lent buffer and answers its length, at most 128. A buffer
     /// too short for it stays as it was.
@@ -31,7 +41,9 @@ pub trait Line {
     final fn print<W: Write>(&self, out: &mut W) -> io::Result<()>
         ensures { OnOk result (Appends (W.contents out.old) (W.contents out.new) (spelling self.now ++ 10 ∷ [])) }
     {
-        out.write_all(self.line().as_bytes())?;
-        out.write_all(b"\n")
+        // In place: a text that a function gives back is copied on its way.
+        let mut line = Text::new();
+        self.add_to(&mut line);
+        line.print(out)
     }
 }

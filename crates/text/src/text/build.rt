@@ -1,11 +1,14 @@
 //! What a text is put together from, and how it leaves.
-ghost use Rattle.std.specs.Prelude.{◌≡◌, ◌≤◌, [], ◌∷◌, ◌++◌, length, decimal};
+ghost use Rattle.std.specs.Prelude.{◌≡◌, ◌≤◌, [], ◌∷◌, ◌++◌, length, decimal, OnOk};
+ghost use Rattle.std.specs.Io.KnownBytes.{Appends};
 ghost use Rattle.text.specs.Texts.{spelt, cut, Placed};
 
 use super::Text;
 use arrayvec::ArrayVec;
 use itoa::Buffer;
 use rules::Refusal;
+use std::io;
+use std::io::Write;
 
 impl Text {
     /// A text of no bytes.
@@ -58,5 +61,13 @@ impl Text {
         }
         out[0..n].copy_from_slice(line);
         Ok(n)
+    }
+
+    /// Prints the text and a newline.
+    pub fn print<W: Write>(&self, out: &mut W) -> io::Result<()>
+        ensures { OnOk result (Appends (W.contents out.old) (W.contents out.new) (spelt self.now ++ 10 ∷ [])) }
+    {
+        out.write_all(self.as_bytes())?;
+        out.write_all(b"\n")
     }
 }
