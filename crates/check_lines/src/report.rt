@@ -14,9 +14,9 @@ pub struct Tally {
     pub events: u64,
 }
 
-/// Prints the fault of each malformed line of the input, in order, and answers the tally.
+/// Prints the fault of each malformed line of the input under its number, in order, and answers the tally.
 pub fn report<W: Write>(input: &[u8], out: &mut W) -> io::Result<Tally>
-    ensures { IfOk result (Checked input.now) }
+    ensures { IfOk result (Checked input.now (W.contents out.old) (W.contents out.new)) }
 {
     let mut tally = Tally {
         lines: 0,

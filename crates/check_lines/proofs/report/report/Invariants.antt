@@ -2,4 +2,4 @@ use Rattle.check_lines.proofs.Sofar.{Sofar}
 use Rattle.check_lines.proofs.report.report.Given as goal
 
 abbrev pub invariant-loop-line : goal.invariant-loop-line
-invariant-loop-line g l = Sofar l.input l.tally l.line-iterator.rest.now
+invariant-loop-line g l = Sofar l.input (g.W.Write.contents l.fn.out) l.tally l.line-iterator.rest.now (g.W.Write.contents l.out)
