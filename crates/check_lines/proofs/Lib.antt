@@ -1,1 +1,2 @@
 pub mod Sofar
+mod Tallied

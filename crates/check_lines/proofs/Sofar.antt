@@ -1,5 +1,5 @@
 -- What the report knows after some lines.
-use Rattle.std.proofs.Common.{◌≡◌, ℕ, ◌+◌, ◌<◌, ◌≤◌, List, [], ◌∷◌, ◌++◌, length, take, Some, None, Option, Result, sym, refl, ap, ◌∙◌, subst, arith}
+use Rattle.std.proofs.Common.{◌≡◌, ℕ, ◌+◌, ◌<◌, ◌≤◌, List, [], ◌∷◌, ◌++◌, length, take, Some, None, Ok, Err, Option, Result, OnOk, sym, refl, ap, ◌∙◌, subst, arith}
 use Rattle.std.proofs.KnownBytes.{Appends-nil, Appends-trans}
 use Rattle.std.proofs.lemmas.List.{length_push, take-take}
 use Rattle.std.specs.Io.KnownBytes.{Appends}
@@ -9,7 +9,7 @@ use Rattle.events.specs.Faults.{Verdict}
 use Rattle.events.proofs.Cutting.{cuts_on, one_cut}
 use Rattle.events.specs.Input.{Cuts, NextLine, none}
 use Rattle.check_lines.specs.declared.report.Tally.{Tally}
-use Rattle.check_lines.specs.Tallies.{Reports, Checked}
+use Rattle.check_lines.specs.Tallies.{tallied, Reports, Checked}
 use Rattle.check_lines.specs.Tallies as tallies
 
 -- some lines were cut off the input, the tally is theirs and they are printed, and this is left
@@ -47,7 +47,21 @@ one_more input text rest left more before mid after t u r s next less read up wr
       fewer = c.1;
     }
 
-pub done : (input : List ℕ) (before after : Option (List ℕ)) (t : Tally) (rest left : List ℕ) → Sofar input before t rest after → NextLine rest None left → Checked input before after t
-done input before after t rest left s end =
+pub done : (input : List ℕ) (before mid after : Option (List ℕ)) (t : Tally) (rest left : List ℕ) → Sofar input before t rest mid → NextLine rest None left → Appends mid after (tallied t ++ 10 ∷ []) → Checked input before after
+done input before mid after t rest left s end writes =
     let cut = subst (λ xs. Cuts xs input s.seen) end.0 s.cuts in
-    record { lines_of = s.seen; printed = s.printed; cut = cut; only = λ others c. one_cut input others s.seen c cut; lines = s.lines; reports = s.reports; written = s.written }
+    record {
+      lines_of = s.seen;
+      tally = t;
+      faults = s.printed;
+      cut = cut;
+      only = λ others c. one_cut input others s.seen c cut;
+      lines = s.lines;
+      reports = s.reports;
+      written = Appends-trans before mid after s.printed (tallied t ++ 10 ∷ []) s.written writes;
+    }
+
+-- what follows where a call is done, where something holds then
+pub where_done : {A E P Q : Type 0} (r : Result A E) → (P → Q) → OnOk r P → OnOk r Q
+where_done (Ok a) f p = f p
+where_done (Err e) f p = tt

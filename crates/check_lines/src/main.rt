@@ -11,8 +11,7 @@ use std::io::{BufWriter, Write};
 fn main(rt: HostRuntime) -> anyhow::Result<()> {
     let input = read_input(rt.alloc(), rt.stdin())?;
     let mut out = BufWriter::new(rt.alloc(), rt.stdout())?;
-    let tally = report(&input, &mut out)?;
-    writeln!(out, "lines {} events {}", tally.lines, tally.events)?;
+    report(&input, &mut out)?;
     out.flush()?;
     Ok(())
 }

@@ -1,11 +1,11 @@
 //! The faults of an input, printed one by one, and the tally of its lines.
-ghost use Rattle.check_lines.specs.Tallies.{Checked};
-ghost use Rattle.std.specs.Prelude.{IfOk};
+ghost use Rattle.check_lines.specs.Tallies.{Checked, tallied};
+ghost use Rattle.std.specs.Prelude.{◌≡◌, OnOk};
 
 use events::{LineFault, Lines, read};
 use std::io;
 use std::io::Write;
-use text::Line;
+use text::{Line, Text};
 
 /// How many lines an input has, and how many of them are events.
 #[derive(Clone, Copy, Drop)]
@@ -14,9 +14,23 @@ pub struct Tally {
     pub events: u64,
 }
 
-/// Prints the fault of each malformed line of the input under its number, in order, and answers the tally.
-pub fn report<W: Write>(input: &[u8], out: &mut W) -> io::Result<Tally>
-    ensures { IfOk result (Checked input.now (W.contents out.old) (W.contents out.new)) }
+/// `lines N events M`
+impl Line for Tally {
+    ghost spelling = { tallied };
+
+    fn line(&self) -> Text {
+        let mut text = Text::new();
+        text.bytes(b"lines ");
+        text.number(self.lines);
+        text.bytes(b" events ");
+        text.number(self.events);
+        text
+    }
+}
+
+/// Prints the fault of each malformed line of the input under its number, in order, and then the tally.
+pub fn report<W: Write>(input: &[u8], out: &mut W) -> io::Result<()>
+    ensures { OnOk result (Checked input.now (W.contents out.old) (W.contents out.new)) }
 {
     let mut tally = Tally {
         lines: 0,
@@ -33,5 +47,5 @@ pub fn report<W: Write>(input: &[u8], out: &mut W) -> io::Result<Tally>
             }
         }
     }
-    Ok(tally)
+    tally.print(out)
 }
