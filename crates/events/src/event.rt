@@ -125,8 +125,8 @@ impl Line for Event {
 }
 
 impl Event {
-    /// Writes the event's line to the front of a lent buffer and answers its length. A buffer too short for it stays
-    /// as it was. What is written reads as the same event again.
+    /// Writes the event's line to the front of a lent buffer and answers its length. A buffer too short for it is
+    /// refused, and stays as it was. What is written reads as the same event again.
     // Kept: it hides `Line::write` for its clause `again`, which the lines of faults and answers could not promise.
     pub fn write(&self, out: &mut [u8]) -> Result<usize, Refusal>
         ensures placed { Placed (written self.now) out.old result out.new }

@@ -8,9 +8,10 @@ use std::io::Read;
 /// How many bytes of an input are read.
 const LIMIT: usize = 16_777_216;
 
-/// The first bytes of an input: all of them, or as many as are read of one.
+/// The first 16,777,216 bytes of an input, or all of them where it has no more.
 ///
-/// Room for them is made at once, with a place more, which the last read finds empty; and a pipe, which hands out less at a time than is asked for, is read to its end.
+/// Room for them is made at once, with a place more, which the last read finds empty. A pipe, which hands out less at a
+/// time than is asked for, is read on to the limit or to its end.
 pub fn read_input<R: Read + Drop>(alloc: Global, from: R) -> io::Result<Vec<u8>>
     ensures length { IfOk result (λ input. vec_len input ≤ 16_777_216) }
     ensures bytes { IfOk result (λ input. IfSome (R.remaining from) (λ bs. input.items ≡ take 16_777_216 bs)) }

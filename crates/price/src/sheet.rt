@@ -18,7 +18,7 @@ fn fill(price: &TaxedPrice, active: Option<u32>, sheet: &mut [u32])
 }
 
 /// Fills a sheet with the bottoms of the taxed price at this rate under an active count or none: place k - 1 gets the
-/// bottom at k. A rate above 99 is refused, and then a sheet longer than 4,096, which stays as it was.
+/// bottom at k. A rate above 99 is refused, and then a sheet longer than 4,096. A refused sheet stays as it was.
 pub fn tariff_sheet(rate: u32, active: Option<u32>, sheet: &mut [u32]) -> Result<(), Refusal>
     ensures { Filled rate active sheet.old result sheet.new }
 {

@@ -63,7 +63,7 @@ pub enum Answer {
     Granted(SlipNumbers),
     /// The frame that was handed back.
     Frame(u32),
-    /// How many frames a client left, or how many estimates the clock ended.
+    /// How many frames a client gave up when it left, or how many estimates the clock ended.
     Count(u32),
 }
 

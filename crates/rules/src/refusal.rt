@@ -46,7 +46,7 @@ pub enum Refusal {
     MaximumOutOfRange,
     /// The tax rate is above 99.
     RateOutOfRange,
-    /// The frame count of a question is 0 or above 4,096, or a tariff sheet is longer than 4,096.
+    /// The frame count of a question or of an offer is 0 or above 4,096, or a tariff sheet is longer than 4,096.
     CountOutOfRange,
     /// A buffer is too short for what is to be written.
     BufferTooShort,

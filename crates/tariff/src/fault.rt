@@ -26,7 +26,7 @@ pub enum Fault {
     /// There are not so many frames.
     #[error("The length is above 4096.")]
     LongSheet,
-    /// The sheet is refused for another reason.
+    /// The sheet is refused for another reason, which does not come about.
     #[error("The sheet is refused: {}.", .0.number())]
     Refused(Refusal),
     /// There is no memory for the text.

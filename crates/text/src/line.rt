@@ -29,7 +29,7 @@ pub trait Line {
     }
 
     /// Writes the line, without a newline, to the front of a lent buffer and answers its length, at most 128. A buffer
-    /// too short for it stays as it was.
+    /// too short for it is refused, and stays as it was.
     final fn write(&self, out: &mut [u8]) -> Result<usize, Refusal>
         ensures short { length (spelling self.now) ≤ 128 }
         ensures placed { Placed (spelling self.now) out.old result out.new }

@@ -113,7 +113,7 @@ impl<'a> Reader<'a> {
         Ok(word)
     }
 
-    /// That the line ends at the cursor.
+    /// That the line ends at the cursor. Where it goes on, the fault is there.
     pub fn finish(&self) -> Result<(), Fault>
         ensures { MatchResult result (λ _. drop self.now.at self.now.line.now ≡ []) (λ f. (f ≡ fault_at fault.Excess (self.now.at + 1)) × (drop self.now.at self.now.line.now ≢ [])) }
     {

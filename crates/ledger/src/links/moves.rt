@@ -55,7 +55,7 @@ impl Links {
         };
     }
 
-    /// Moves the top frame of a stack that has one onto another.
+    /// Moves the top frame of a stack that has one onto another, and answers it.
     pub(crate) fn shift(&mut self, from: usize, to: usize) -> u16
         requires { (from < 257) × (to < 257) × (from ≢ to) × (0 < length (stacks self.old from)) }
         ensures many { many self.new ≡ many self.old }
@@ -76,7 +76,7 @@ impl Links {
         frame
     }
 
-    /// Moves all frames of an owner other than 0 onto the free stack, one after the other.
+    /// Moves all frames of an owner other than 0 onto the free stack, one after the other, and answers how many.
     pub(crate) fn release(&mut self, owner: usize) -> u16
         requires { (owner ≢ 0) }
         ensures many { many self.new ≡ many self.old }

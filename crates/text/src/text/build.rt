@@ -50,7 +50,8 @@ impl Text {
         self.line.as_slice()
     }
 
-    /// Writes the text to the front of a lent buffer and answers its length. A buffer too short for it stays as it was.
+    /// Writes the text to the front of a lent buffer and answers its length. A buffer too short for it is refused, and
+    /// stays as it was.
     pub fn write(&self, out: &mut [u8]) -> Result<usize, Refusal>
         ensures { Placed (spelt self.now) out.old result out.new }
     {
