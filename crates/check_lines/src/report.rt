@@ -18,13 +18,11 @@ pub struct Tally {
 impl Line for Tally {
     ghost spelling = { tallied };
 
-    fn line(&self) -> Text {
-        let mut text = Text::new();
+    fn add_to(&self, text: &mut Text) {
         text.bytes(b"lines ");
         text.number(self.lines);
         text.bytes(b" events ");
         text.number(self.events);
-        text
     }
 }
 

@@ -1,7 +1,7 @@
 use Rattle.std.proofs.Common.{◌+◌, ◌∷◌, ◌++◌, [], Ok, Err, sym, refl, ap, ◌∙◌, subst, arith}
 use Rattle.std.proofs.KnownBytes.{Appends-nil}
 use Rattle.std.proofs.lemmas.List.{append-nil}
-use Rattle.check_lines.specs.Tallies.{Reports, good, bad, ended}
+use Rattle.check_lines.specs.Tallies.{Reports, good, bad, fault_line}
 use Rattle.check_lines.proofs.Sofar.{Sofar, begun, done, one_more, where_done}
 use Rattle.check_lines.proofs.report.report.Goals as goal
 
@@ -19,7 +19,7 @@ pub loop-line-preserved : goal.loop-line-preserved
 loop-line-preserved g c =
     one_more _ _ _ _ _ _ _ _ _ _ (Err c.in-Err.refusal) c.loop-line.invariant c.in-Some.ensures.steps (c.in-Some.ensures.goes.on tt).2 c.in-Err.ensures.decided refl c.in_ok-print-in-Err.ensures
     (λ line printed seen n v so_far. (
-      subst (λ k. Reports (seen ++ line ∷ []) c.loop-line.tally.events (printed ++ ended (k + 1) c.in-Err.refusal)) (sym n) (bad so_far c.in-Err.refusal v),
+      subst (λ k. Reports (seen ++ line ∷ []) c.loop-line.tally.events (printed ++ fault_line (k + 1) c.in-Err.refusal)) (sym n) (bad so_far c.in-Err.refusal v),
       omega (arith, c.loop-line.invariant.fewer),
     ))
 
