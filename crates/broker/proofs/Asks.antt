@@ -1,19 +1,21 @@
 -- Asks: who is outbid, and where a frame comes from.
-use Rattle.std.proofs.Common.{◌≡◌, ℕ, ◌+◌, ◌<◌, ◌≤◌, true, false, ◌≢◌, [], Some, None, Ok, Err, Option, sym, refl, ◌∙◌, subst, inl, inr, arith}
+use Rattle.std.proofs.Common.{◌≡◌, ℕ, zero, suc, ◌+◌, ◌<◌, ◌≤◌, true, false, ◌≢◌, List, [], ◌∷◌, length, Some, None, Ok, Err, Option, sym, refl, ap, ◌∙◌, subst, inl, inr, arith}
 use Rattle.std.specs.Option.{ok_or}
 use Rattle.rules.specs.Offers.{Meaning}
 use Rattle.rules.specs.Refusals.{First, Clear}
 use Rattle.rules.specs.declared.refusal.Refusal.TheVariants.{Outbid}
-use Rattle.laws.specs.ByNumber.{by_number}
+use Rattle.laws.specs.ByNumber.{by_number, put}
 use Rattle.laws.specs.Division.{minimum_of, bid_of}
 use Rattle.laws.specs.Broker as rules
 use Rattle.laws.specs.Broker.{SlipNumbers, present, holding, MayTake, IsOutbid}
-use Rattle.laws.specs.Calls.{Ask, Granted, Step, entries, asker_entries, IsClear}
+use Rattle.laws.specs.Calls.{Ask, Granted, Step, entries, asker_entries, IsClear, slip, granted, with_stack, granted_free, granted_from}
+use Rattle.laws.proofs.Kept.{none_some}
 use Rattle.heap.specs.Heaps.{Least}
 use Rattle.price.specs.declared.telling.Price.{Ghosts}
 use Rattle.pool.specs.declared.member.Member.{Member}
 use Rattle.pool.specs.Members.{offer_at}
-use Rattle.pool.specs.View.{height, Source, Grants}
+use Rattle.pool.specs.View.{height, Source, lie_with, Grants}
+use Rattle.pool.specs.View as grants
 use Rattle.price.specs.declared.key.Ranked.{Ranked}
 use Rattle.price.specs.Keys.{Keyed, KeyOf, outranks, leads}
 use Rattle.broker.specs.Bids.{listed}
@@ -70,9 +72,28 @@ module _ {P : Type 0} {g : Ghosts P} (b : Broker P g) (c : ℕ) (clear : Clear (
           let may = may_take_above m (view b) (listed b.payers) b.kept p k least c j (next j key) over in
           from_payer p may (not_itself m (view b) (g.lawful b.price) c p (noted_made b.pool c x e) (omega (arith, few, held)) may)
 
--- a frame that was granted from where it may come from is a step
+-- a frame that was granted from where it may come from is a step, and there was one
+abbrev Steps : Meaning → rules.Broker → ℕ → Option SlipNumbers → rules.Broker → Type 0
+Steps m v c (Some s) w = Step m v (Ask c) (Ok (Granted s)) w
+Steps m v c None w = ⊥
+
+module _ (m : Meaning) (v : rules.Broker) (c : ℕ) (nobody : v.clients 0 ≡ None) where
+  none_lie : (p : ℕ) → lie_with v p ≡ [] → Source m v c p → ⊥
+  none_lie zero e (inl (z, some)) = some e
+  none_lie zero e (inr (none, may)) = let far = may.0.beyond in let h = ap (λ (o : Option rules.Client). length (rules.stack_of o)) nobody in omega (arith, far, h)
+  none_lie (suc p) e (inl (z, some)) = omega (arith, z)
+  none_lie (suc p) e (inr (none, may)) = let far = may.0.beyond in let h = ap length e in omega (arith, far, h)
+
+  grant_steps : (p : ℕ) (o : Option SlipNumbers) (w : rules.Broker) → Grants v c p o w → IsClear m v (Ask c) → Source m v c p → p ≢ c → Steps m v c o w
+  grant_steps p o w (grants.free it top) clear (inl (z, some)) ne = granted_free clear it top
+  grant_steps p o w (grants.free it top) clear (inr (none, may)) ne = let a = ap length top in let n = ap length none in absurd (omega (arith, a, n))
+  grant_steps p o w (grants.from {y = y} off it its top) clear (inl (z, some)) ne = absurd (none_some nobody (subst (λ (q : ℕ). v.clients q ≡ Some y) z its))
+  grant_steps p o w (grants.from {f = f} {fs = fs} {x = x} {y = y} off it its top) clear (inr (none, may)) ne =
+      subst (λ (l : List ℕ). Step m v (Ask c) (Ok (Granted (slip v c f p))) (granted v c f p l (put (put v.clients p (Some (with_stack y fs))) c (Some (with_stack x (f ∷ x.stack)))))) (sym none)
+      (granted_from clear it none may its top)
+  grant_steps p o w (grants.nothing empty) clear source ne = none_lie p (empty ne) source
+
 pub granted_step : {P : Type 0} {g : Ghosts P} (b : Broker P g) (c : ℕ) {p : ℕ} {o : Option SlipNumbers} {s : SlipNumbers} {w : rules.Broker} → Sourced b c (Ok p) → Grants (view b) c p o w → o ≡ Some s →
     Step (meaning b) (view b) (Ask c) (Ok (Granted s)) w
 granted_step b c {p} {o} {s} {w} from grants e =
-    let given : Grants (view b) c p (Some s) w = subst (λ (o : Option SlipNumbers). Grants (view b) c p o w) e grants in
-    given (meaning b) from.0 from.1.0 from.1.1
+    subst (λ (o : Option SlipNumbers). Steps (meaning b) (view b) c o w) e (grant_steps (meaning b) (view b) c refl p o w grants from.0 from.1.0 from.1.1)

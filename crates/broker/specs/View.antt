@@ -9,7 +9,7 @@
 -- Opens        the slip of a client's ask opened its passage, and took no frame of its own
 -- delivered    the answer to a delivery
 -- Stepped      a call on a broker is a step of the rules, and leaves the price
--- Dropping     estimates that end by a tick were dropped, so many, and their clients were listed anew
+-- Dropping     estimates that end by a tick were dropped, so many, and nothing else was changed
 -- Ended        so were all of them
 -- Sourced      where the frame of an ask comes from, or why there is none
 use Rattle.std.specs.Prelude.{◌≡◌, ℕ, ◌≢◌, List, ◌∷◌, Some, Result}

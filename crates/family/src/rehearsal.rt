@@ -21,8 +21,8 @@ fn obey<P: Price>(brokers: &mut [Broker<P>], order: Order) -> Told
 }
 
 /// Performs the orders in turn, each on its broker, and writes the answer of each into its place. An order for a broker
-/// that is not there is answered by none, and touches no broker. Fewer places for answers than orders are refused
-/// before anything is done.
+/// that is not there is answered by none, and touches no broker. Places behind the answers stay as they were. Fewer places
+/// for answers than orders are refused before anything is done.
 pub fn rehearse<P: Price>(
     brokers: &mut [Broker<P>],
     orders: &[Order],

@@ -1,5 +1,5 @@
 -- The worked examples, by computing.
-use Rattle.std.proofs.Common.{◌≡◌, ℕ, zero, suc, ◌+◌, ◌<◌, ◌≤◌, min, Bool, true, false, cond, eqb, ltb, leb, ◌≢◌, ◌⊎◌, List, [], ◌∷◌, length, None, codes, refl, ap, ◌∙◌, inl, inr, arith}
+use Rattle.std.proofs.Common.{◌≡◌, ℕ, zero, suc, ◌+◌, ◌*◌, ◌<◌, ◌≤◌, min, Bool, true, false, cond, eqb, ltb, leb, ◌≢◌, ◌⊎◌, List, [], ◌∷◌, length, None, codes, sym, refl, ap, ◌∙◌, subst, inl, inr, arith}
 use Rattle.std.proofs.lemmas.Fmt.{decimal_digit}
 use Rattle.std.proofs.lemmas.Bool.{cases_lt, cases_eq, both_ways}
 use Rattle.std.proofs.lemmas.Bool.Decides.{nat_tests}
@@ -13,7 +13,8 @@ use Rattle.events.specs.Faults
 use Rattle.events.specs.Faults.{Begins, fault_at}
 use Rattle.laws.specs.ByNumber.{upto, total}
 use Rattle.laws.specs.Division.{Clients, Settled, terms, minimum_of, capped, bid_of}
-use Rattle.laws.specs.Cases.{three, trio, HasFault, WorkedExamples}
+use Rattle.laws.specs.Broker.{Broker, present, terms_of, shares_of, all_shares, MinimumsWithin}
+use Rattle.laws.specs.Cases.{three, trio, seven, HasFault, WorkedExamples}
 
 -- a test of the numbers below n
 every : ℕ → (ℕ → Bool) → Bool
@@ -65,6 +66,19 @@ settled_by m F cs n none ones pairs sums =
 none_past : (l h x y z c : ℕ) → 4 ≤ c → (trio l h c ≡ None) × (three x y z 0 c ≡ 0)
 none_past l h x y z c g = (grind (arith, nat_tests), grind (arith, nat_tests))
 
+-- a minimum is within its client's share
+fits : Broker → ℕ → Bool
+fits b c = leb (minimum_of (present b) c * all_shares b) (b.frames * shares_of b c)
+
+-- with no client from 4 on, computing tells it of all
+within_by : (b : Broker) → ((c : ℕ) → 4 ≤ c → b.clients c ≡ None) → every 4 (fits b) ≡ true → MinimumsWithin b
+unfolding fits
+within_by b none ones c =
+    elim (cases_lt c 4) [
+      | inl h ↦ let t = every_tells 4 (fits b) ones c h in grind (arith, nat_tests)
+      | inr h ↦ let e = ap (λ o. (terms (terms_of o)).minimum) (none c h) in subst (λ (n : ℕ). n * all_shares b ≤ b.frames * shares_of b c) (sym e) (omega arith)
+    ]
+
 -- a letter and no space
 asks_nobody : HasFault (codes "Q") 2 2
 asks_nobody =
@@ -82,7 +96,7 @@ goes_on =
     (fault_at fault.Excess (length (spelled Ask (3 ∷ [])) + 1), Faults.no_end begins refl (λ e. let z : ◌≡◌ {A = ℕ} 0 1 = cc in omega arith), refl, rw three_is)
 
 pub worked_examples : WorkedExamples
-unfolding every between stands above ranks upto
+unfolding every between stands fits above ranks upto
 worked_examples =
     record {
       share_price = refl;
@@ -93,6 +107,9 @@ worked_examples =
       a_minimum = settled_by share 7 (trio 1 7) (three 4 2 1 0) (none_past 1 7 4 2 1) refl refl refl;
       maximums = settled_by share 7 (trio 0 2) (three 2 2 2 0) (none_past 0 2 2 2 2) refl refl refl;
       one_free = refl;
+      proportional = (refl, refl, refl);
+      within = within_by (seven 0) (λ c g. grind (arith, nat_tests)) refl;
+      not_within = λ all. let beyond = all 3 in omega (arith, beyond);
       no_space = asks_nobody;
       no_end = goes_on;
     }

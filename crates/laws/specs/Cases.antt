@@ -5,9 +5,11 @@
 -- three             something for each of the clients 1, 2 and 3, and the same for all other numbers
 -- with_shares       a client's terms: shares, a minimum, a maximum, and no estimate
 -- trio              clients 1, 2 and 3 with 500, 300 and 100 shares: a minimum for client 3, and a maximum for all
+-- newly             a client with shares and a minimum, that holds nothing yet
+-- seven             a broker with seven frames and clients 1, 2 and 3 with 500, 300 and 100 shares: a minimum for client 3
 -- HasFault          a line has its first fault of a kind, by its number, at a column
 -- WorkedExamples    the examples, all together
-use Rattle.std.specs.Prelude.{◌≡◌, ℕ, ◌+◌, cond, List, Some, None, codes, Option, ◌==◌}
+use Rattle.std.specs.Prelude.{◌≡◌, ℕ, ◌+◌, cond, List, [], Some, None, codes, Option, ◌==◌}
 use Rattle.rules.specs.declared.offer.Offer.{Offer}
 use Rattle.rules.specs.declared.offer.Quote.{Quote}
 use Rattle.rules.specs.declared.offer.Terms.{Terms}
@@ -17,6 +19,8 @@ use Rattle.rules.specs.Prices.{share, taxed, classed}
 use Rattle.events.specs.Faults.{FirstFault}
 use Rattle.laws.specs.ByNumber.{total}
 use Rattle.laws.specs.Division.{Clients, Settled}
+use Rattle.laws.specs.Broker.{Client, Broker, share_of, MinimumsWithin}
+use Rattle.laws.specs.Calls.{numbers}
 
 abbrev pub hundred : ℕ → Option ℕ → ℕ → Offer
 hundred class active count = record { shares = 100; class = class; active = active; count = count }
@@ -32,6 +36,13 @@ with_shares shares minimum maximum = Some (record { shares = shares; class = 0; 
 
 abbrev pub trio : ℕ → ℕ → Clients
 trio minimum maximum = three (with_shares 500 0 maximum) (with_shares 300 0 maximum) (with_shares 100 minimum maximum) None
+
+abbrev pub newly : ℕ → ℕ → Option Client
+newly shares minimum = Some (record { shares = shares; class = 0; minimum = minimum; maximum = 7; estimate = None; stack = [] })
+
+abbrev pub seven : ℕ → Broker
+seven minimum =
+    record { unit = 1; frames = 7; tick = 0; asks = 0; free = numbers 1 7; clients = three (newly 500 0) (newly 300 0) (newly 100 minimum) None; passage = None }
 
 abbrev pub HasFault : List ℕ → ℕ → ℕ → Type 0
 HasFault line kind column = (f : Fault) × FirstFault line f × (kind_number f.kind ≡ kind) × (f.column ≡ column)
@@ -52,6 +63,11 @@ pub record WorkedExamples : Type 0 where
   -- and with maximums of 2 and no minimum, which leaves one frame free
   pub maximums : Settled share 7 (trio 0 2) (three 2 2 2 0)
   pub one_free : total (three 2 2 2 0) + 1 ≡ 7
+  -- the proportional shares of these three clients, rounded down
+  pub proportional : (share_of (seven 0) 1 ≡ 3) × (share_of (seven 0) 2 ≡ 2) × (share_of (seven 0) 3 ≡ 0)
+  -- without a minimum all are within their shares, and a minimum of 1 for client 3 is not
+  pub within : MinimumsWithin (seven 0)
+  pub not_within : MinimumsWithin (seven 1) → ⊥
   -- an ask without a client, and one that goes on after it
   pub no_space : HasFault (codes "Q") 2 2
   pub no_end : HasFault (codes "Q 3 ") 4 4

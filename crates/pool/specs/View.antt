@@ -7,16 +7,17 @@
 -- height       how many frames lie in a client's stack, and for 0 in the free stack
 -- Steps        a call on a pool is a step of the rules, under every price
 -- Source       where the frame of an ask may come from: the free stack, told as 0, or a client that has to give one up
--- Grants       a frame has been granted, as the rules have it if it may come from there, or there was none to grant
+-- lie_with     the frames of the free stack, told as 0, or of a client
+-- Grants       the top frame of the free stack, told as 0, or of another client was granted, or there was none to grant
 -- Opens        a frame granted from there opens the passage of its slip
 -- NextClient   the lowest number above another that an admitted client has, or none where no client has one
-use Rattle.std.specs.Prelude.{◌≡◌, ℕ, ◌<◌, ◌≢◌, ◌⊎◌, List, [], length, Some, None, Ok, Option, Result}
+use Rattle.std.specs.Prelude.{◌≡◌, ℕ, zero, suc, ◌<◌, ◌≢◌, ◌⊎◌, List, [], ◌∷◌, length, Some, None, Option, Result}
 use Rattle.rules.specs.Offers.{Meaning}
 use Rattle.rules.specs.declared.refusal.Refusal.{Refusal}
-use Rattle.laws.specs.ByNumber.{by_number}
+use Rattle.laws.specs.ByNumber.{by_number, put}
 use Rattle.laws.specs.Broker as rules
 use Rattle.laws.specs.Broker.{SlipNumbers, MayTake}
-use Rattle.laws.specs.Calls.{Call, Ask, Answer, Granted, Step, IsClear, Absent}
+use Rattle.laws.specs.Calls.{Call, Answer, Step, Absent, with_stack, slip, granted}
 use Rattle.ledger.specs.Ledgers.{stack_of}
 use Rattle.pool.specs.declared.member.Member.{Member}
 pub use Rattle.pool.specs.declared.pool.Pool.{Pool}
@@ -50,10 +51,18 @@ Steps b x a d = (m : Meaning) → Step m (view b) x a (view d)
 abbrev pub Source : Meaning → rules.Broker → ℕ → ℕ → Type 0
 Source m b c p = ((p ≡ 0) × (b.free ≢ [])) ⊎ ((b.free ≡ []) × MayTake m b c p)
 
--- A client that may take a frame does not take it from itself; that is for the caller to show, under its price.
-abbrev pub Grants : rules.Broker → ℕ → ℕ → Option SlipNumbers → rules.Broker → Type 0
-Grants b c p (Some s) d = (m : Meaning) → IsClear m b (Ask c) → Source m b c p → p ≢ c → Step m b (Ask c) (Ok (Granted s)) d
-Grants b c p None d = (d ≡ b) × ((m : Meaning) → Source m b c p → p ≢ c → ⊥)
+abbrev pub lie_with : rules.Broker → ℕ → List ℕ
+lie_with b zero = b.free
+lie_with b (suc p) = rules.stack_of (b.clients (suc p))
+
+-- Whether the client may take the frame is for the caller to say, under its price: all this holds of every call.
+pub data Grants (b : rules.Broker) (c : ℕ) : ℕ → Option SlipNumbers → rules.Broker → Type 0 where
+  free : {f : ℕ} {fs : List ℕ} {x : rules.Client} → b.clients c ≡ Some x → b.free ≡ f ∷ fs →
+      Grants b c 0 (Some (slip b c f 0)) (granted b c f 0 fs (put b.clients c (Some (with_stack x (f ∷ x.stack)))))
+  from : {p f : ℕ} {fs : List ℕ} {x y : rules.Client} → p ≢ c → b.clients c ≡ Some x → b.clients p ≡ Some y → y.stack ≡ f ∷ fs →
+      Grants b c p (Some (slip b c f p)) (granted b c f p b.free (put (put b.clients p (Some (with_stack y fs))) c (Some (with_stack x (f ∷ x.stack)))))
+  -- no frame goes onto the stack that it lies in
+  nothing : {p : ℕ} → (p ≢ c → lie_with b p ≡ []) → Grants b c p None b
 
 abbrev pub Opens : ℕ → Option SlipNumbers → rules.Broker → Type 0
 Opens p (Some s) d = (s.former ≡ p) × (d.passage ≡ Some s)

@@ -1,21 +1,23 @@
 -- What is printed of a whole input.
 --
 -- Run         as in the code
--- held_of     what the end report tells of a client: how many frames it holds, and its price there; nothing of one that
---             holds none
+-- held_at     what the end report tells of a client that holds so many frames: how many, and its price there; nothing of
+--             one that holds none
+-- held_of     what it tells of a client as the broker is
 -- Reports     what the end report tells of the clients above a number, by rising number
 -- PrintsAll   what is printed of lines from a number on, on a broker, one value for each, and then the end report: the free
 --             frames, and each client
--- StillPrints what a run still prints
--- left        more than it still prints
+-- StillAt, StillPrints   what is still printed of a broker, the number of the last line, the input that is left and a
+--             stage; what a run still prints
+-- left_at, left   more than is still printed
 -- Falls       less is left after a value
 -- NextPrints  what is printed with the next value, or that nothing is left
 -- Nexts       the next value, or none where nothing is left
 -- Gives       these are the values that a run gives one after another, until it gives none
--- GivesAll    a run has given its values, until it gave none
 -- ended       the line of a value and its newline
 -- lines       these of several values, one after another
--- PrintsRun   what a writer holds has grown by the lines of all that a run gives
+-- Continues   some more calls may have been made on a run's broker, and its price is the same
+-- PrintsRun   what a writer holds has grown by the lines of all that a run gives, and the run gives nothing more
 -- Serves      it has grown by the lines of all that is printed of an input on a new broker
 -- Fresh       whatever a new run gives is what is printed of its input on a new broker
 use Rattle.std.specs.Prelude.{◌≡◌, ℕ, zero, suc, ◌+◌, ◌-◌, ◌<◌, List, [], ◌∷◌, ◌++◌, length, Some, None, Option}
@@ -82,7 +84,7 @@ pub record Nexts {P : Type 0} {g : Ghosts P} (before : Run P g) (r : Option Prin
   pub prints : NextPrints before r after
   pub price : after.session.broker.price ≡ before.session.broker.price
   pub falls : Falls before r after
-  -- whatever calls led to the broker as it came, with those of this line they lead to the broker as it is left
+  -- whatever calls led to the broker as it came, with some more they lead to the broker as it is left
   pub history : (h : List history.Event) → Led h before.session.broker → (calls : List history.Event) × Led (calls ++ h) after.session.broker
 
 pub data Gives {P : Type 0} {g : Ghosts P} : Run P g → List Printed → Type 0 where
@@ -99,19 +101,23 @@ pub record Fresh {P : Type 0} {g : Ghosts P} (under : P) (input : List ℕ) (r :
   -- and nothing else is
   pub only : (vs ws : List Printed) (texts : List (List ℕ)) → Gives r vs → Cut input texts → PrintsAll (g.meaning under) rules.new_broker 1 texts ws → ws ≡ vs
 
-abbrev pub GivesAll : {P : Type 0} {g : Ghosts P} → Run P g → Type 0
-GivesAll r = (vs : List Printed) × Gives r vs
-
 abbrev pub ended : Printed → List ℕ
 ended v = printed_line v ++ 10 ∷ []
 
 abbrev pub lines : List Printed → List ℕ
 lines vs = flat_map ended vs
 
-pub record PrintsRun {P : Type 0} {g : Ghosts P} (r : Run P g) (before after : Option (List ℕ)) : Type 0 where
+pub record Continues {P : Type 0} {g : Ghosts P} (before after : Run P g) : Type 0 where
+  pub price : after.session.broker.price ≡ before.session.broker.price
+  -- whatever calls led to the broker as it came, with some more they lead to the broker as it is left
+  pub history : (h : List history.Event) → Led h before.session.broker → (calls : List history.Event) × Led (calls ++ h) after.session.broker
+
+pub record PrintsRun {P : Type 0} {g : Ghosts P} (before after : Run P g) (held holds : Option (List ℕ)) : Type 0 where
   pub all : List Printed
-  pub gives : Gives r all
-  pub prints : Appends before after (lines all)
+  pub gives : Gives before all
+  pub prints : Appends held holds (lines all)
+  pub nothing_more : Gives after []
+  pub continues : Continues before after
 
 pub record Serves (m : Meaning) (input : List ℕ) (before after : Option (List ℕ)) : Type 0 where
   pub texts : List (List ℕ)

@@ -10,9 +10,9 @@ use std::io;
 use std::io::{Read, Write};
 use text::Line;
 
-/// Prints all that a run gives, line by line.
+/// Prints all that a run gives, line by line. The run then gives nothing more.
 pub fn print_all<P: Price, W: Write>(run: &mut Run<P>, out: &mut W) -> io::Result<()>
-    ensures { OnOk result (PrintsRun run.old (W.contents out.old) (W.contents out.new)) }
+    ensures { OnOk result (PrintsRun run.old run.new (W.contents out.old) (W.contents out.new)) }
 {
     // Kept: a `for` would ask `P: Drop` of callers of `print_all`, which it did not: only then is a run an iterator.
     while let Some(value) = run.advance() {
@@ -21,7 +21,8 @@ pub fn print_all<P: Price, W: Write>(run: &mut Run<P>, out: &mut W) -> io::Resul
     Ok(())
 }
 
-/// Reads an input, performs it on a new broker under a price, and prints what comes of each line, and the end report.
+/// Reads the first 16,777,216 bytes of an input, performs them on a new broker under a price, and prints what comes of each
+/// line, and the end report. The first error of reading or writing is answered.
 pub fn serve<P: Price + Drop, R: Read + Drop, W: Write>(
     price: P,
     alloc: Global,

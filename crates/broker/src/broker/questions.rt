@@ -26,7 +26,8 @@ impl<P: Price> Broker<P> {
         self.pool.proportional_share(client)
     }
 
-    /// The lowest number above this one that an admitted client has, so that all can be gone over by rising number from 0.
+    /// The lowest number above this one that an admitted client has, if any has one, so that all can be gone over by rising
+    /// number from 0.
     pub fn next_client(&self, after: u32) -> Option<u32>
         ensures { NextClient (view self.now) after result }
     {
@@ -57,7 +58,8 @@ impl<P: Price> Broker<P> {
         Ok(self.price.quote(offer))
     }
 
-    /// The lowest payer: the client whose bid at its holding ranks lowest among all that hold more than their minimums.
+    /// The lowest payer: the client whose bid at its holding ranks lowest among all that hold more than their minimums, or
+    /// none where nobody does.
     pub fn lowest_payer(&self) -> Option<u32>
         ensures { LowestIs (meaning self.now) (view self.now) result }
     {

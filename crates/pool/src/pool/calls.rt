@@ -44,7 +44,8 @@ impl Pool {
         Ok(())
     }
 
-    /// Closes the open passage, where these are the numbers of its slip.
+    /// Closes the open passage, where these are the numbers of its slip. Any others are refused, and all while no passage is
+    /// open.
     pub fn close(&mut self, slip: SlipNumbers) -> Result<(), Refusal>
         ensures { Steps self.old (Deliver slip) (answered (λ _. Done) result) self.new }
     {
@@ -93,7 +94,9 @@ impl Pool {
     }
 
     /// Admits a client, 1 to 256, under its terms: shares of 1 to 1,000,000, a class of 0 to 9, a minimum and a maximum
-    /// of frames. It starts with no frame and no estimate.
+    /// of frames. It starts with no frame and no estimate. Numbers out of range are refused, in this order (a maximum of 0 or
+    /// below the minimum as well), then any client while a passage is open, one that is admitted already, a maximum above the
+    /// frames, and a minimum with which all minimums together would exceed them.
     pub fn admit(&mut self, asked: Admission) -> Result<(), Refusal>
         ensures { Steps self.old (Admit asked) (answered (λ _. Done) result) self.new }
     {

@@ -24,7 +24,7 @@ impl Pool {
         Ok(())
     }
 
-    /// The client whose estimate ends first, if it ends by this tick, and what is noted of that client.
+    /// A client whose estimate ends by this tick, the first to end, if there is one, and what is noted of that client.
     fn first_ended(&self, tick: u32) -> Option<(usize, Member)>
         ensures { MatchOption result ((c : ℕ) → ends tick ((view self.now).clients c) ≡ 0) (λ p. Numbered p.0 × AdmittedAs self.now p.0 p.1 × (ended tick p.1.estimate ≡ 1)) }
     {
@@ -33,7 +33,7 @@ impl Pool {
         Some((client, member))
     }
 
-    /// Drops the estimate that ends first, if it ends by this tick, and answers whose it was.
+    /// Drops an estimate that ends by this tick, if there is one, and answers whose it was.
     pub fn drop_ended(&mut self, tick: u32) -> Option<u32>
         ensures { Drops tick (view self.old) result (view self.new) }
     {

@@ -35,7 +35,8 @@ impl Pool {
     }
 
     /// Grants an admitted client the top frame of the free stack, told as 0, or of another client's stack: counts the
-    /// ask and opens its passage.
+    /// ask and opens its passage. Where no frame lies there, or the stack is the client's own, nothing is granted and
+    /// nothing changes.
     // Kept: 0 is the free stack, as the owners of the ledger and the former owner in a slip's plain numbers have it.
     pub fn grant(&mut self, client: u32, from: u32) -> Option<SlipNumbers>
         requires { Absent (view self.old) client → ⊥ }

@@ -38,7 +38,7 @@ impl Pool {
         self.members[client as usize - 1].is_some()
     }
 
-    /// How many frames lie in a client's stack, and for 0 in the free stack.
+    /// How many frames lie in a client's stack, and for 0 in the free stack. Any other number has none.
     pub fn height(&self, owner: u32) -> u32
         ensures { result ≡ height self.now owner }
     {
