@@ -1,5 +1,6 @@
 -- What a writer holds of what a run gives, value by value.
 use Rattle.std.proofs.Common.{◌≡◌, ℕ, List, [], ◌∷◌, ◌++◌, Some, None, Option, sym, refl, ap, ◌∙◌, subst, append_assoc}
+use Rattle.std.proofs.KnownBytes.{Appends-trans}
 use Rattle.std.proofs.lemmas.List.{append-nil}
 use Rattle.std.specs.Io.KnownBytes.{Appends}
 use Rattle.price.specs.declared.telling.Price.{Ghosts}
@@ -8,19 +9,12 @@ use Rattle.laws.specs.Histories as history
 use Rattle.broker.specs.View.{Led}
 use Rattle.session.specs.Run.{Run, Nexts, Gives, Continues, PrintsRun, none, some, ended, lines}
 
--- bytes behind bytes
-appends_on : (a b c : Option (List ℕ)) (xs ys : List ℕ) → Appends a b xs → Appends b c ys → Appends a c (xs ++ ys)
-appends_on None b c xs ys h k = tt
-appends_on (Some a) None c xs ys h k = absurd h
-appends_on (Some a) (Some b) None xs ys h k = absurd k
-appends_on (Some a) (Some b) (Some c) xs ys h k = k ∙ ap (λ z. z ++ ys) h ∙ append_assoc a xs ys
-
 lines_on : (vs : List Printed) (v : Printed) → lines (vs ++ v ∷ []) ≡ lines vs ++ ended v
 lines_on [] v = append-nil (ended v)
 lines_on (w ∷ vs) v = ap (λ z. ended w ++ z) (lines_on vs v) ∙ sym (append_assoc (ended w) (lines vs) (ended v))
 
 pub value_printed : (a b c : Option (List ℕ)) (vs : List Printed) (v : Printed) → Appends a b (lines vs) → Appends b c (ended v) → Appends a c (lines (vs ++ v ∷ []))
-value_printed a b c vs v h k = subst (Appends a c) (sym (lines_on vs v)) (appends_on a b c (lines vs) (ended v) h k)
+value_printed a b c vs v h k = subst (Appends a c) (sym (lines_on vs v)) (Appends-trans a b c (lines vs) (ended v) h k)
 
 -- a run continues as it does by one value
 continues_on : {P : Type 0} {g : Ghosts P} {first r s : Run P g} {o : Option Printed} → Continues first r → Nexts r o s → Continues first s
