@@ -46,8 +46,8 @@ pub fn lowest_payer_is_found()
     ensures { LowestPayerIsFound }
 {}
 
-/// Where nothing but asks and deliveries is accepted, accepted asks end, and once each client has asked again the broker is
-/// at rest. So every broker can be brought to rest.
+/// Where nothing but asks and deliveries is accepted, accepted asks end, and once each client has asked again and every call
+/// was refused, with no passage open, the broker is at rest. So every broker can be brought to rest.
 pub fn rest_is_reached()
     ensures { RestIsReached }
 {}

@@ -8,12 +8,12 @@ use Rattle.std.specs.Prelude.{◌≡◌, ℕ, List, [], length, Ok, Err, Option,
 use Rattle.tariff.specs.declared.request.Request.{Request}
 use Rattle.tariff.specs.declared.fault.Fault.{Fault}
 use Rattle.tariff.specs.declared.fault.Fault.TheVariants as fault
-use Rattle.tariff.specs.Requests.{Number, NoNumber, EstimateWord, NoEstimate, Asks}
+use Rattle.tariff.specs.Requests.{Number, NoNumber, ActiveWord, NoActive, Asks}
 
 abbrev pub Misread : List ℕ → List ℕ → List ℕ → Fault → Type 0
 Misread u v w fault.Rate = NoNumber u
-Misread u v w fault.Active = ((r : ℕ) × Number u r) × NoEstimate v
-Misread u v w fault.Length = ((r : ℕ) × Number u r) × ((a : Option ℕ) × EstimateWord v a) × NoNumber w
+Misread u v w fault.Active = ((r : ℕ) × Number u r) × NoActive v
+Misread u v w fault.Length = ((r : ℕ) × Number u r) × ((a : Option ℕ) × ActiveWord v a) × NoNumber w
 Misread u v w _ = ⊥
 
 abbrev pub ReadsThree : List ℕ → List ℕ → List ℕ → Result Request Fault → Type 0

@@ -3,9 +3,9 @@
 -- Number          a word is a number of at most 32 bits in plain decimal
 -- NoNumber        a word is no such number
 -- ReadsNumber     what is read of a word: its number, or that it is none
--- EstimateWord    a word is an active count, or - where there is none
--- NoEstimate      a word is neither
--- ReadsEstimate   what is read of a word: its active count or the absence of one, or the fault that it is neither
+-- ActiveWord      a word is an active count, or - where there is none
+-- NoActive        a word is neither
+-- ReadsActive     what is read of a word: its active count or the absence of one, or the fault that it is neither
 -- Asks            three words ask for a sheet
 use Rattle.std.specs.Prelude.{◌≡◌, ℕ, ◌^◌, ◌<◌, List, Some, None, Ok, Err, codes, decimal, Option, Result, ◌≢◌}
 use Rattle.tariff.specs.declared.request.Request.{Request}
@@ -22,16 +22,16 @@ abbrev pub ReadsNumber : List ℕ → Option ℕ → Type 0
 ReadsNumber w (Some n) = Number w n
 ReadsNumber w None = NoNumber w
 
-abbrev pub EstimateWord : List ℕ → Option ℕ → Type 0
-EstimateWord w None = w ≡ codes "-"
-EstimateWord w (Some a) = Number w a
+abbrev pub ActiveWord : List ℕ → Option ℕ → Type 0
+ActiveWord w None = w ≡ codes "-"
+ActiveWord w (Some a) = Number w a
 
-abbrev pub NoEstimate : List ℕ → Type 0
-NoEstimate w = (w ≢ codes "-") × NoNumber w
+abbrev pub NoActive : List ℕ → Type 0
+NoActive w = (w ≢ codes "-") × NoNumber w
 
-abbrev pub ReadsEstimate : List ℕ → Result (Option ℕ) Fault → Type 0
-ReadsEstimate w (Ok a) = EstimateWord w a
-ReadsEstimate w (Err f) = NoEstimate w × (f ≡ fault.Active)
+abbrev pub ReadsActive : List ℕ → Result (Option ℕ) Fault → Type 0
+ReadsActive w (Ok a) = ActiveWord w a
+ReadsActive w (Err f) = NoActive w × (f ≡ fault.Active)
 
 abbrev pub Asks : List ℕ → List ℕ → List ℕ → Request → Type 0
-Asks rate active length q = Number rate q.rate × EstimateWord active q.active × Number length q.length
+Asks rate active length q = Number rate q.rate × ActiveWord active q.active × Number length q.length

@@ -1,6 +1,6 @@
 //! What the arguments ask for.
 ghost use Rattle.std.specs.Prelude.{map, string_bytes};
-ghost use Rattle.tariff.specs.Requests.{ReadsNumber, ReadsEstimate};
+ghost use Rattle.tariff.specs.Requests.{ReadsNumber, ReadsActive};
 ghost use Rattle.tariff.specs.Faults.{ReadsThree, Reads};
 
 use crate::fault::Fault;
@@ -22,8 +22,8 @@ fn number(word: &str) -> Option<u32>
 }
 
 /// The active count that a word says, or none where it is `-`.
-fn estimate(word: &str) -> Result<Option<u32>, Fault>
-    ensures { ReadsEstimate word.now result }
+fn active_count(word: &str) -> Result<Option<u32>, Fault>
+    ensures { ReadsActive word.now result }
 {
     if word == "-" {
         return Ok(None);
@@ -38,7 +38,7 @@ impl Request {
     {
         Ok(Request {
             rate: number(rate).ok_or(Fault::Rate)?,
-            active: estimate(active)?,
+            active: active_count(active)?,
             length: number(length).ok_or(Fault::Length)?,
         })
     }
