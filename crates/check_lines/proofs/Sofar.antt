@@ -1,5 +1,5 @@
 -- What the report knows after some lines.
-use Rattle.std.proofs.Common.{◌≡◌, ℕ, ◌+◌, ◌<◌, ◌≤◌, List, [], ◌∷◌, ◌++◌, length, take, Some, None, Ok, Err, Option, Result, OnOk, sym, refl, ap, ◌∙◌, subst, arith}
+use Rattle.std.proofs.Common.{◌≡◌, ℕ, ◌+◌, ◌<◌, ◌≤◌, List, [], ◌∷◌, ◌++◌, length, take, Some, None, Option, Result, sym, refl, ap, ◌∙◌, subst, arith}
 use Rattle.std.proofs.KnownBytes.{Appends-nil, Appends-trans}
 use Rattle.std.proofs.lemmas.List.{length_push, take-take}
 use Rattle.std.specs.Io.KnownBytes.{Appends}
@@ -47,12 +47,11 @@ one_more input text rest left more before mid after t u r s next less read up wr
       fewer = c.1;
     }
 
-pub done : (input : List ℕ) (before mid after : Option (List ℕ)) (t : Tally) (rest left : List ℕ) → Sofar input before t rest mid → NextLine rest None left → Appends mid after (tallied t ++ 10 ∷ []) → Checked input before after
+pub done : (input : List ℕ) (before mid after : Option (List ℕ)) (t : Tally) (rest left : List ℕ) → Sofar input before t rest mid → NextLine rest None left → Appends mid after (tallied t ++ 10 ∷ []) → Checked input t before after
 done input before mid after t rest left s end writes =
     let cut = subst (λ xs. Cuts xs input s.seen) end.0 s.cuts in
     record {
       lines_of = s.seen;
-      tally = t;
       faults = s.printed;
       cut = cut;
       only = λ others c. one_cut input others s.seen c cut;
@@ -60,8 +59,3 @@ done input before mid after t rest left s end writes =
       reports = s.reports;
       written = Appends-trans before mid after s.printed (tallied t ++ 10 ∷ []) s.written writes;
     }
-
--- what follows where a call is done, where something holds then
-pub where_done : {A E P Q : Type 0} (r : Result A E) → (P → Q) → OnOk r P → OnOk r Q
-where_done (Ok a) f p = f p
-where_done (Err e) f p = tt

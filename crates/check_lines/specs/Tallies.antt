@@ -3,7 +3,7 @@
 -- tallied      the line of a tally
 -- fault_line   what is printed of a malformed line with this number, and a newline
 -- Reports      so many of these lines are events, and this is printed of the others, in order, each under its number
--- Checked      this was printed of the lines that the input consists of, and then their tally
+-- Checked      a tally is that of the lines that the input consists of, and this was printed of them, and then the tally
 use Rattle.std.specs.Prelude.{◌≡◌, ℕ, ◌+◌, List, [], ◌∷◌, ◌++◌, length, Ok, Err, Option, codes, decimal}
 use Rattle.std.specs.Io.KnownBytes.{Appends}
 use Rattle.rules.specs.declared.refusal.Refusal.{Refusal}
@@ -25,13 +25,12 @@ pub data Reports : List (List ℕ) → ℕ → List ℕ → Type 0 where
   bad : {lines : List (List ℕ)} {n : ℕ} {printed line : List ℕ} → Reports lines n printed → (r : Refusal) → Verdict line (Err r) →
       Reports (lines ++ line ∷ []) n (printed ++ fault_line (length lines + 1) r)
 
-pub record Checked (input : List ℕ) (before after : Option (List ℕ)) : Type 0 where
+pub record Checked (input : List ℕ) (t : Tally) (before after : Option (List ℕ)) : Type 0 where
   pub lines_of : List (List ℕ)
-  pub tally : Tally
   pub faults : List ℕ
   pub cut : Cut input lines_of
   -- and there is no other way to cut it
   pub only : (others : List (List ℕ)) → Cut input others → others ≡ lines_of
-  pub lines : tally.lines ≡ length lines_of
-  pub reports : Reports lines_of tally.events faults
-  pub written : Appends before after (faults ++ (tallied tally ++ 10 ∷ []))
+  pub lines : t.lines ≡ length lines_of
+  pub reports : Reports lines_of t.events faults
+  pub written : Appends before after (faults ++ (tallied t ++ 10 ∷ []))

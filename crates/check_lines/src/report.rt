@@ -1,6 +1,6 @@
 //! The faults of an input, printed one by one, and the tally of its lines.
 ghost use Rattle.check_lines.specs.Tallies.{Checked, tallied};
-ghost use Rattle.std.specs.Prelude.{◌≡◌, OnOk};
+ghost use Rattle.std.specs.Prelude.{◌≡◌, IfOk};
 
 use events::{LineFault, Lines, read};
 use std::io;
@@ -26,9 +26,9 @@ impl Line for Tally {
     }
 }
 
-/// Prints the fault of each malformed line of the input under its number, in order, and then the tally.
-pub fn report<W: Write>(input: &[u8], out: &mut W) -> io::Result<()>
-    ensures { OnOk result (Checked input.now (W.contents out.old) (W.contents out.new)) }
+/// Prints the fault of each malformed line of the input under its number, in order, and then the tally, which it also answers.
+pub fn report<W: Write>(input: &[u8], out: &mut W) -> io::Result<Tally>
+    ensures { IfOk result (λ tally. Checked input.now tally (W.contents out.old) (W.contents out.new)) }
 {
     let mut tally = Tally {
         lines: 0,
@@ -45,5 +45,6 @@ pub fn report<W: Write>(input: &[u8], out: &mut W) -> io::Result<()>
             }
         }
     }
-    tally.print(out)
+    tally.print(out)?;
+    Ok(tally)
 }

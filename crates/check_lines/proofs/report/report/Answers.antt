@@ -2,7 +2,7 @@ use Rattle.std.proofs.Common.{◌+◌, ◌∷◌, ◌++◌, [], Ok, Err, sym, re
 use Rattle.std.proofs.KnownBytes.{Appends-nil}
 use Rattle.std.proofs.lemmas.List.{append-nil}
 use Rattle.check_lines.specs.Tallies.{Reports, good, bad, fault_line}
-use Rattle.check_lines.proofs.Sofar.{Sofar, begun, done, one_more, where_done}
+use Rattle.check_lines.proofs.Sofar.{Sofar, begun, done, one_more}
 use Rattle.check_lines.proofs.report.report.Goals as goal
 
 pub loop-line-init : goal.loop-line-init
@@ -24,4 +24,4 @@ loop-line-preserved g c =
     ))
 
 pub returns : goal.returns
-returns g c = where_done c.print-2.result (done _ _ _ _ _ _ _ c.loop-line.invariant c.in-None.ensures.steps) c.print-2.ensures
+returns g c = done _ _ _ _ _ _ _ c.loop-line.invariant c.in-None.ensures.steps c.in_ok-print.ensures
