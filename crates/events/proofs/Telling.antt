@@ -1,6 +1,5 @@
 -- What is printed of a refused line, put together piece by piece.
-use Rattle.std.proofs.Common.{◌≡◌, ℕ, ◌≤◌, List, [], ◌++◌, length, codes, decimal, sym, refl, ap, ◌∙◌, append_assoc, arith}
-use Rattle.std.proofs.lemmas.List.{length-append}
+use Rattle.std.proofs.Common.{◌≡◌, ℕ, List, [], ◌++◌, codes, decimal, sym, refl, ap, ◌∙◌, append_assoc}
 use Rattle.rules.specs.Numbers.{kind_number, number, values}
 use Rattle.rules.specs.declared.refusal.Fault.{Fault}
 use Rattle.rules.specs.declared.refusal.Refusal.{Refusal}
@@ -39,12 +38,6 @@ malformed_on start n k c = (((((start ++ codes "line ") ++ decimal n) ++ codes "
 
 abbrev refused_on : List ℕ → ℕ → ℕ → List ℕ
 refused_on start n r = (((start ++ codes "line ") ++ decimal n) ++ codes " refused ") ++ decimal r
-
-pub malformed_short : (n k c : ℕ) → length (decimal n) ≤ 20 → length (decimal k) ≤ 20 → length (decimal c) ≤ 20 → length (malformed_on [] n k c) ≤ 128
-malformed_short n k c p q r = simp length-append (omega arith)
-
-pub refused_short : (n r : ℕ) → length (decimal n) ≤ 20 → length (decimal r) ≤ 20 → length (refused_on [] n r) ≤ 128
-refused_short n r p q = simp length-append (omega arith)
 
 pub text_pieces : (start : List ℕ) (f : LineFault) (x : Fault) (k : ℕ) → f.refusal ≡ Malformed x → k ≡ kind_number x.kind → malformed_on start f.line k x.column ≡ start ++ told f
 text_pieces start f x k is kind =

@@ -1,11 +1,7 @@
-use Rattle.std.proofs.Common.{codes, decimal, ap, ◌∙◌, append_assoc, arith}
-use Rattle.std.proofs.lemmas.List.{length-append}
+use Rattle.std.proofs.Common.{codes, decimal, ap, ◌∙◌, append_assoc}
 use Rattle.text.specs.Texts.{cut}
 use Rattle.text.proofs.Cuts.{grown}
 use Rattle.check_lines.proofs.report.TallyLine.add_to.Goals as goal
-
-pub returns-clause-short : goal.returns-clause-short
-returns-clause-short c = let p = c.number.ensures.short in let q = c.number-2.ensures.short in simp length-append (omega (arith, p, q))
 
 pub returns-clause-text : goal.returns-clause-text
 returns-clause-text c =
