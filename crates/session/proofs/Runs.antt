@@ -54,7 +54,7 @@ module _ {P : Type 0} {g : Ghosts P} (before : Run P g) where
   pub none_next : (k : ℕ) → before.stage ≡ Reporting k → NextClient b k None → Nexts before None before
   none_next k e h =
       let nothing = subst (λ (s : Stage). At s []) (sym e) (over h) in
-      record { prints = (nothing, nothing); price = refl; falls = tt; history = λ h led. ([], led) }
+      record { prints = (nothing, nothing); continues = record { price = refl; history = λ h led. ([], led) }; falls = tt }
 
   module _ (after : Run P g) (p : Printed) where
     -- a value of the report, which leaves the broker
@@ -65,9 +65,8 @@ module _ {P : Type 0} {g : Ghosts P} (before : Run P g) where
           prints = λ vs more.
               let there = subst (λ (s : Stage). StillAt (meaning after.session.broker) (view after.session.broker) after.number after.lines.rest.now s vs) e more in
               prints vs (subst (λ (s : Session P g). Reports (meaning s.broker) (view s.broker) k vs) same there);
-          price = ap (λ (s : Session P g). s.broker.price) same;
+          continues = record { price = ap (λ (s : Session P g). s.broker.price) same; history = λ h led. ([], subst (λ (s : Session P g). Led h s.broker) (sym same) led) };
           falls = subst (λ (s : Stage). left_at (length after.lines.rest.now) s < left before) (sym e) less;
-          history = λ h led. ([], subst (λ (s : Session P g). Led h s.broker) (sym same) led);
         }
 
     -- the head of the report, where no line is left
@@ -94,9 +93,8 @@ module _ {P : Type 0} {g : Ghosts P} (before : Run P g) where
               let (calls, made) = j.performs whole (sym (take-take 80 80 whole (omega arith)) ∙ ap (take 80) (sym head)) in
               let rest_printed = subst (λ (n : ℕ). PrintsAll m (view after.session.broker) (n + 1) texts vs) raised (subst (λ (q : P). PrintsAll (g.meaning q) (view after.session.broker) (after.number + 1) texts vs) j.price all) in
               subst (λ (s : Stage). At s (p ∷ vs)) (sym e) (whole ∷ texts, cuts_on after.lines.rest.now [] texts rest (whole ∷ []) cuts cut, then (r, told, made) rest_printed);
-          price = j.price;
+          continues = record { price = j.price; history = λ h led. let (calls, made) = j.performs text refl in (calls, j.history h calls text led made) };
           falls = subst (λ (s : Stage). left_at (length after.lines.rest.now) s < left before) (sym now) (subst (λ (s : Stage). length after.lines.rest.now + 258 < left_at (length rest) s) (sym e) (omega (arith, less)));
-          history = λ h led. let (calls, made) = j.performs text refl in (calls, j.history h calls text led made);
         }
       where
         now : after.stage ≡ Reading

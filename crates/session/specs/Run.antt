@@ -12,11 +12,11 @@
 -- left_at, left   more than is still printed
 -- Falls       less is left after a value
 -- NextPrints  what is printed with the next value, or that nothing is left
+-- Continues   some more calls may have been made on a run's broker, and its price is the same
 -- Nexts       the next value, or none where nothing is left
 -- Gives       these are the values that a run gives one after another, until it gives none
 -- ended       the line of a value and its newline
 -- lines       these of several values, one after another
--- Continues   some more calls may have been made on a run's broker, and its price is the same
 -- PrintsRun   what a writer holds has grown by the lines of all that a run gives, and the run gives nothing more
 -- Serves      it has grown by the lines of all that is printed of an input on a new broker
 -- Fresh       whatever a new run gives is what is printed of its input on a new broker
@@ -80,12 +80,15 @@ abbrev pub Falls : {P : Type 0} {g : Ghosts P} → Run P g → Option Printed �
 Falls before (Some v) after = left after < left before
 Falls before None after = Unit {0}
 
-pub record Nexts {P : Type 0} {g : Ghosts P} (before : Run P g) (r : Option Printed) (after : Run P g) : Type 0 where
-  pub prints : NextPrints before r after
+pub record Continues {P : Type 0} {g : Ghosts P} (before after : Run P g) : Type 0 where
   pub price : after.session.broker.price ≡ before.session.broker.price
-  pub falls : Falls before r after
   -- whatever calls led to the broker as it came, with some more they lead to the broker as it is left
   pub history : (h : List history.Event) → Led h before.session.broker → (calls : List history.Event) × Led (calls ++ h) after.session.broker
+
+pub record Nexts {P : Type 0} {g : Ghosts P} (before : Run P g) (r : Option Printed) (after : Run P g) : Type 0 where
+  pub prints : NextPrints before r after
+  pub continues : Continues before after
+  pub falls : Falls before r after
 
 pub data Gives {P : Type 0} {g : Ghosts P} : Run P g → List Printed → Type 0 where
   none : {before after : Run P g} → Nexts before None after → Gives before []
@@ -106,11 +109,6 @@ ended v = printed_line v ++ 10 ∷ []
 
 abbrev pub lines : List Printed → List ℕ
 lines vs = flat_map ended vs
-
-pub record Continues {P : Type 0} {g : Ghosts P} (before after : Run P g) : Type 0 where
-  pub price : after.session.broker.price ≡ before.session.broker.price
-  -- whatever calls led to the broker as it came, with some more they lead to the broker as it is left
-  pub history : (h : List history.Event) → Led h before.session.broker → (calls : List history.Event) × Led (calls ++ h) after.session.broker
 
 pub record PrintsRun {P : Type 0} {g : Ghosts P} (before after : Run P g) (held holds : Option (List ℕ)) : Type 0 where
   pub all : List Printed
