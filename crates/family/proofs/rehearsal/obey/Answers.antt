@@ -1,5 +1,5 @@
 use Rattle.std.proofs.Common.{refl}
-use Rattle.family.proofs.Places.{nth_within}
+use Rattle.std.proofs.lemmas.Option.{slice_get-get_or}
 use Rattle.family.proofs.rehearsal.obey.Goals as goal
 
 pub returns : goal.returns
@@ -7,7 +7,7 @@ returns g c =
     record {
       before = _;
       after = c.perform.new.self;
-      there = nth_within c.args.brokers.now c.args.order.broker c.index-brokers-order.result c.if-order-brokers.false;
+      there = slice_get-get_or c.args.brokers.now c.args.order.broker c.index-brokers-order.result c.if-order-brokers.false;
       called = c.perform.ensures;
       others = refl;
     }

@@ -8,10 +8,10 @@ loop-i-init g c = sofar_none c.args.brokers.now c.args.orders.now c.args.answers
 
 pub loop-i-preserved : goal.loop-i-preserved
 loop-i-preserved g c =
-    sofar_one c.args.brokers.now c.args.orders.now c.args.answers.now c.loop-i.i c.loop-i.brokers c.loop-i.answers c.loop-i.invariant (omega (arith, c.if-answers-orders.false)) c.loop-i-test.true _ (get_or_default c.args.orders.now c.loop-i.i _ _ c.loop-i-test.true) c.obey.result c.obey.new.brokers c.obey.ensures
+    sofar_one c.loop-i.invariant (omega (arith, c.if-answers-orders.false)) c.loop-i-test.true (get_or_default c.args.orders.now c.loop-i.i _ _ c.loop-i-test.true) c.obey.result c.obey.ensures
 
 pub returns : goal.returns
 returns g c = (
   omega (arith, c.if-answers-orders.false),
-  all_done c.args.brokers.now c.args.orders.now c.args.answers.now c.loop-i.i c.loop-i.brokers c.loop-i.answers (omega (arith, c.loop-i-test.false, c.loop-i.auto.i-end)) c.loop-i.invariant,
+  all_done c.loop-i.invariant (omega (arith, c.loop-i-test.false, c.loop-i.auto.i-end)),
 )
