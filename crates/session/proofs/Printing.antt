@@ -1,20 +1,15 @@
 -- What a writer holds of what a run gives, value by value.
-use Rattle.std.proofs.Common.{◌≡◌, ℕ, List, [], ◌∷◌, ◌++◌, Some, None, Option, sym, refl, ap, ◌∙◌, subst, append_assoc}
+use Rattle.std.proofs.Common.{◌≡◌, ℕ, List, [], ◌∷◌, ◌++◌, Some, None, Option, refl, ◌∙◌, subst, append_assoc}
 use Rattle.std.proofs.KnownBytes.{Appends-trans}
-use Rattle.std.proofs.lemmas.List.{append-nil}
+use Rattle.std.proofs.lemmas.List.{append-nil, flat_map_more}
 use Rattle.std.specs.Io.KnownBytes.{Appends}
 use Rattle.price.specs.declared.telling.Price.{Ghosts}
 use Rattle.session.specs.declared.printed.Printed.{Printed}
-use Rattle.laws.specs.Histories as history
-use Rattle.broker.specs.View.{Led}
 use Rattle.session.specs.Run.{Run, Nexts, Gives, Continues, PrintsRun, none, some, ended, lines}
 
-lines_on : (vs : List Printed) (v : Printed) → lines (vs ++ v ∷ []) ≡ lines vs ++ ended v
-lines_on [] v = append-nil (ended v)
-lines_on (w ∷ vs) v = ap (λ z. ended w ++ z) (lines_on vs v) ∙ sym (append_assoc (ended w) (lines vs) (ended v))
-
-pub value_printed : (a b c : Option (List ℕ)) (vs : List Printed) (v : Printed) → Appends a b (lines vs) → Appends b c (ended v) → Appends a c (lines (vs ++ v ∷ []))
-value_printed a b c vs v h k = subst (Appends a c) (sym (lines_on vs v)) (Appends-trans a b c (lines vs) (ended v) h k)
+-- a run whose session is the same continues it by no call
+pub stays : {P : Type 0} {g : Ghosts P} {r s : Run P g} → s.session ≡ r.session → Continues r s
+stays e = record { price = rw e; history = λ h led. ([], rw e led) }
 
 -- first to one run, and then on to another
 continues_on : {P : Type 0} {g : Ghosts P} {first r s : Run P g} → Continues first r → Continues r s → Continues first s
@@ -24,12 +19,8 @@ continues_on {s = s} c d =
       history = λ h led.
           let (calls, there) = c.history h led in
           let (more, here) = d.history (calls ++ h) there in
-          (more ++ calls, subst (λ (k : List history.Event). Led k s.session.broker) (sym (append_assoc more calls h)) here);
+          (more ++ calls, rw append_assoc here);
     }
-
--- a run that gave nothing gives nothing again
-still_nothing : {P : Type 0} {g : Ghosts P} {r s : Run P g} → Nexts r None s → Gives s []
-still_nothing {s = s} n = none {after = s} (record { prints = (n.prints.1, n.prints.1); continues = record { price = refl; history = λ h led. ([], led) }; falls = tt })
 
 -- what a run gave so far is printed, and whatever it gives from here on comes behind that
 pub record Sofar {P : Type 0} {g : Ghosts P} (first : Run P g) (before : Option (List ℕ)) (r : Run P g) (after : Option (List ℕ)) : Type 0 where
@@ -42,17 +33,17 @@ pub sofar_more : {P : Type 0} {g : Ghosts P} {first r s : Run P g} {a b c : Opti
 sofar_more {first = first} {a = a} {b = b} {c = c} {v = v} sofar n k =
     record {
       given = sofar.given ++ v ∷ [];
-      prints = value_printed a b c sofar.given v sofar.prints k;
-      gives = λ vs h. subst (Gives first) (sym (append_assoc sofar.given (v ∷ []) vs)) (sofar.gives (v ∷ vs) (some n h));
+      prints = subst (Appends a c) (flat_map_more ended [] sofar.given v) (Appends-trans a b c (lines sofar.given) (ended v) sofar.prints k);
+      gives = λ vs h. rw append_assoc (sofar.gives (v ∷ vs) (some n h));
       continues = continues_on sofar.continues n.continues;
     }
 
 pub sofar_all : {P : Type 0} {g : Ghosts P} {first r s : Run P g} {a b : Option (List ℕ)} → Sofar first a r b → Nexts r None s → PrintsRun first s a b
-sofar_all {first = first} sofar n =
+sofar_all {s = s} sofar n =
     record {
       all = sofar.given;
-      gives = subst (Gives first) (append-nil sofar.given) (sofar.gives [] (none n));
+      gives = rw append-nil at (sofar.gives [] (none n));
       prints = sofar.prints;
-      nothing_more = still_nothing n;
+      nothing_more = none {after = s} (record { prints = (n.prints.1, n.prints.1); continues = stays refl; falls = tt });
       continues = continues_on sofar.continues n.continues;
     }

@@ -1,5 +1,5 @@
 -- What a run prints, value by value.
-use Rattle.std.proofs.Common.{◌≡◌, ℕ, zero, suc, ◌+◌, ◌-◌, ◌<◌, List, [], ◌∷◌, length, take, Some, None, Ok, Err, Result, sym, refl, ap, ◌∙◌, subst, arith}
+use Rattle.std.proofs.Common.{◌≡◌, ℕ, ◌+◌, ◌<◌, List, [], ◌∷◌, length, take, Some, None, Ok, Err, Result, sym, refl, ap, ◌∙◌, arith}
 use Rattle.std.proofs.lemmas.List.{take-take}
 use Rattle.rules.specs.Offers.{Meaning}
 use Rattle.rules.specs.Refusals.{Replies}
@@ -14,27 +14,25 @@ use Rattle.laws.specs.Questions.{price_entries, price_at}
 use Rattle.laws.proofs.One.{first_or_clear}
 use Rattle.pool.specs.View.{NextClient}
 use Rattle.broker.specs.declared.broker.Broker.{Broker}
-use Rattle.broker.specs.View.{meaning, view, Led}
+use Rattle.broker.specs.View.{meaning, view}
 use Rattle.price.specs.declared.telling.Price.{Ghosts}
 use Rattle.session.specs.declared.printed.Printed.{Printed}
 use Rattle.session.specs.declared.printed.Printed.TheVariants as line
-use Rattle.session.specs.declared.session.Session.{Session}
 use Rattle.session.specs.declared.run.Stage.{Stage}
 use Rattle.session.specs.declared.run.Stage.TheVariants.{Reading, Reporting}
 use Rattle.session.specs.Session.{Lined}
-use Rattle.session.specs.Run.{held_at, held_of, Reports, PrintsAll, StillAt, StillPrints, left_at, left, Nexts, Run, Gives, over, client, report, then, none, some}
+use Rattle.session.specs.Run.{held_of, Reports, StillAt, StillPrints, left_at, left, Nexts, Run, Gives, over, client, report, then, none, some}
+use Rattle.session.proofs.Printing.{stays}
 use Rattle.session.proofs.Holding.{few_held, holder_there, there_numbered, price_told}
 
--- who holds nothing has no price
-none_held : (m : Meaning) (b : rules.Broker) (c n : ℕ) → (0 < n → ⊥) → None ≡ held_at m b c n
-none_held m b c zero h = refl
-none_held m b c (suc n) h = absurd (h (omega arith))
-
+-- who has no price holds nothing
 pub unpriced : {P : Type 0} {g : Ghosts P} (b : Broker P g) (c n : ℕ) → n ≡ holding (view b) c → (r : Result Quote Refusal) →
     Replies (price_entries (view b) c n) (λ q. q ≡ price_at (meaning b) (view b) c n) r → ((q : Quote) → r ≡ Ok q → ⊥) → None ≡ held_of (meaning b) (view b) c
 unpriced b c n e (Ok q) t never = absurd (never q refl)
 unpriced b c n e (Err r) t never =
-    none_held (meaning b) (view b) c (holding (view b) c) (λ h. first_or_clear (price_entries (view b) c n) r t (price_told b.pool c (holder_there b.pool c h) n (omega (arith, e, h)) (omega (arith, e, few_held b.pool c))))
+    let priced : 0 < holding (view b) c → ⊥ = λ h. first_or_clear (price_entries (view b) c n) r t (price_told b.pool c (holder_there b.pool c h) n (omega arith) (omega (arith, few_held b.pool c))) in
+    let nothing : holding (view b) c ≡ 0 = omega (arith, priced) in
+    rw nothing
 
 module _ {P : Type 0} {g : Ghosts P} (before : Run P g) where
   abbrev m : Meaning
@@ -53,35 +51,23 @@ module _ {P : Type 0} {g : Ghosts P} (before : Run P g) where
   -- the end of the report
   pub none_next : (k : ℕ) → before.stage ≡ Reporting k → NextClient b k None → Nexts before None before
   none_next k e h =
-      let nothing = subst (λ (s : Stage). At s []) (sym e) (over h) in
-      record { prints = (nothing, nothing); continues = record { price = refl; history = λ h led. ([], led) }; falls = tt }
+      let nothing : At before.stage [] = rw e (over h) in
+      record { prints = (nothing, nothing); continues = stays refl; falls = tt }
 
   module _ (after : Run P g) (p : Printed) where
     -- a value of the report, which leaves the broker
     reported : (k : ℕ) → after.session ≡ before.session → after.stage ≡ Reporting k → ((vs : List Printed) → Reports m b k vs → At before.stage (p ∷ vs)) →
         left_at (length after.lines.rest.now) (Reporting k) < left before → Nexts before (Some p) after
-    reported k same e prints less =
-        record {
-          prints = λ vs more.
-              let there = subst (λ (s : Stage). StillAt (meaning after.session.broker) (view after.session.broker) after.number after.lines.rest.now s vs) e more in
-              prints vs (subst (λ (s : Session P g). Reports (meaning s.broker) (view s.broker) k vs) same there);
-          continues = record { price = ap (λ (s : Session P g). s.broker.price) same; history = λ h led. ([], subst (λ (s : Session P g). Led h s.broker) (sym same) led) };
-          falls = subst (λ (s : Stage). left_at (length after.lines.rest.now) s < left before) (sym e) less;
-        }
+    reported k same e prints less = record { prints = λ vs more. prints vs (rw (e, same) at more); continues = stays same; falls = rw e less }
 
     -- the head of the report, where no line is left
     pub free_next : before.stage ≡ Reading → rest ≡ [] → after.session ≡ before.session → after.stage ≡ Reporting 0 → p ≡ line.Free (length b.free) → Nexts before (Some p) after
-    free_next e empty same now told =
-        reported 0 same now
-        (λ vs more. subst (λ (q : Printed). At before.stage (q ∷ vs)) (sym told) (subst (λ (s : Stage). At s (line.Free (length b.free) ∷ vs)) (sym e) ([], input.none empty, report more)))
-        (subst (λ (s : Stage). 257 < left_at (length rest) s) (sym e) (omega arith))
+    free_next e empty same now told = reported 0 same now (λ vs more. rw (told, e) ([], input.none empty, report more)) (rw e (omega arith))
 
     -- one client of the report
     pub client_next : (k c : ℕ) → before.stage ≡ Reporting k → NextClient b k (Some c) → after.session ≡ before.session → after.stage ≡ Reporting c → p ≡ line.Client c (held_of m b c) → Nexts before (Some p) after
     client_next k c e h same now told =
-        reported c same now
-        (λ vs more. subst (λ (q : Printed). At before.stage (q ∷ vs)) (sym told) (subst (λ (s : Stage). At s (line.Client c (held_of m b c) ∷ vs)) (sym e) (client h more)))
-        (subst (λ (s : Stage). 257 - c < left_at (length rest) s) (sym e) (let i = there_numbered before.session.broker.pool c h.1 in omega (arith, i.1, h.0)))
+        reported c same now (λ vs more. rw (told, e) (client h more)) (rw e (omega (arith, there_numbered before.session.broker.pool c h.1, h.0)))
 
     -- the next line
     pub line_next : (text : List ℕ) → before.stage ≡ Reading → NextLine rest (Some text) after.lines.rest.now → length after.lines.rest.now < length rest →
@@ -89,16 +75,12 @@ module _ {P : Type 0} {g : Ghosts P} (before : Run P g) where
     line_next text e (whole, head, cuts) less (r, told, j) raised still =
         record {
           prints = λ vs more.
-              let (texts, cut, all) = subst (λ (s : Stage). StillAt (meaning after.session.broker) (view after.session.broker) after.number after.lines.rest.now s vs) now more in
+              let (texts, cut, all) = rw (still, e) at more in
               let (calls, made) = j.performs whole (sym (take-take 80 80 whole (omega arith)) ∙ ap (take 80) (sym head)) in
-              let rest_printed = subst (λ (n : ℕ). PrintsAll m (view after.session.broker) (n + 1) texts vs) raised (subst (λ (q : P). PrintsAll (g.meaning q) (view after.session.broker) (after.number + 1) texts vs) j.price all) in
-              subst (λ (s : Stage). At s (p ∷ vs)) (sym e) (whole ∷ texts, cuts_on after.lines.rest.now [] texts rest (whole ∷ []) cuts cut, then (r, told, made) rest_printed);
+              rw e (whole ∷ texts, cuts_on after.lines.rest.now [] texts rest (whole ∷ []) cuts cut, then (r, told, made) (rw (meaning, j.price, raised) at all));
           continues = record { price = j.price; history = λ h led. let (calls, made) = j.performs text refl in (calls, j.history h calls text led made) };
-          falls = subst (λ (s : Stage). left_at (length after.lines.rest.now) s < left before) (sym now) (subst (λ (s : Stage). length after.lines.rest.now + 258 < left_at (length rest) s) (sym e) (omega (arith, less)));
+          falls = rw (still, e) (omega arith);
         }
-      where
-        now : after.stage ≡ Reading
-        now = still ∙ e
 
 -- what a run gives is what it still prints
 pub gives_all : {P : Type 0} {g : Ghosts P} (r : Run P g) (vs : List Printed) → Gives r vs → StillPrints r vs
