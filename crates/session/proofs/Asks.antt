@@ -1,18 +1,14 @@
 -- Asks: the prices that are printed of a grant, and its delivery.
 use Rattle.std.specs.Result.{IsOk}
-use Rattle.std.proofs.Common.{◌≡◌, ℕ, zero, suc, ◌+◌, ◌≤◌, ◌≢◌, List, [], ◌∷◌, length, Some, Ok, Err, Option, Result, sym, refl, ap, ◌∙◌, subst, inl, inr, arith}
+use Rattle.std.proofs.Common.{◌≡◌, ℕ, zero, suc, ◌+◌, ◌≤◌, ◌≢◌, List, [], ◌∷◌, length, Some, Ok, Err, Option, Result, refl, ap, ◌∙◌, add-zero, inl, inr, arith}
 use Rattle.rules.specs.Offers.{Meaning}
-use Rattle.rules.specs.Rank.{bid_at, told}
-use Rattle.rules.specs.declared.offer.Quote.{Quote}
 use Rattle.laws.specs.ByNumber.{put}
-use Rattle.laws.specs.Division.{terms}
 use Rattle.laws.specs.Broker as rules
-use Rattle.laws.specs.Broker.{SlipNumbers, holding, terms_of, stack_of}
+use Rattle.laws.specs.Broker.{SlipNumbers, holding}
 use Rattle.laws.specs.Calls
-use Rattle.laws.specs.Calls.{Ask, Deliver, Done, Granted, Step, Absent, with_stack}
+use Rattle.laws.specs.Calls.{Ask, Deliver, Done, Granted, Step, with_stack}
 use Rattle.laws.specs.Histories as history
-use Rattle.laws.specs.Questions.{price_at}
-use Rattle.laws.proofs.Kept.{none_some}
+use Rattle.laws.proofs.Kept.{none_some, held_of}
 use Rattle.laws.proofs.Puts.{put_at, put_off}
 use Rattle.broker.specs.declared.broker.Broker.{Broker}
 use Rattle.broker.specs.declared.slip.Undelivered.{Undelivered}
@@ -22,8 +18,6 @@ use Rattle.events.specs.declared.event.Event.TheVariants as event
 use Rattle.session.specs.declared.printed.Grant.{Grant}
 use Rattle.session.specs.declared.printed.Printed.TheVariants as line
 use Rattle.session.specs.Session.{Performed, taken_of, grant_of, granted}
-use Rattle.session.specs.Session as session
-use Rattle.session.specs.declared.printed.Taken.{Taken}
 use Rattle.session.specs.Asks.{HasPrice, Lost, taken_from, grant_after}
 use Rattle.session.proofs.Holding.{few_held}
 
@@ -35,32 +29,22 @@ pub record Leaves (m : Meaning) (b : rules.Broker) (c : ℕ) (s : SlipNumbers) (
   pub over : taken_from m g s.former ≡ taken_of m b s.former
 
 module _ (m : Meaning) (b : rules.Broker) (few : (d : ℕ) → holding b d ≤ 4_096) (c : ℕ) where
-  -- the price of a client at a count, by what is noted of it
-  abbrev quoted : ℕ → Option rules.Client → ℕ → Quote
-  quoted p o k = told m (bid_at p (terms (terms_of o)) k)
-
   given : (cs : ℕ → Option rules.Client) (x : rules.Client) (f : ℕ) (g : rules.Broker) → holding g c ≤ 4_096 → g.clients c ≡ put cs c (Some (with_stack x (f ∷ x.stack))) c → HasPrice g c 0
   given cs x f g most e =
       let it = e ∙ put_at cs c (Some (with_stack x (f ∷ x.stack))) in
-      ((λ none. none_some none it), omega (arith, ap (λ (o : Option rules.Client). length (stack_of o)) it), omega (arith, most))
+      ((λ none. none_some none it), omega (arith, ap held_of it), omega (arith, most))
 
   taken : (p f : ℕ) (fs : List ℕ) (y : rules.Client) (g : rules.Broker) → b.clients p ≡ Some y → y.stack ≡ f ∷ fs → g.clients p ≡ Some (with_stack y fs) →
       Lost g p × (taken_from m g p ≡ taken_of m b p)
   taken zero f fs y g e h k = (tt, refl)
   taken (suc p) f fs y g e h k =
-      let before : holding b (suc p) ≡ length y.stack = ap (λ (o : Option rules.Client). length (stack_of o)) e in
-      let after : holding g (suc p) ≡ length fs = ap (λ (o : Option rules.Client). length (stack_of o)) k in
-      let one : holding g (suc p) + 1 ≡ holding b (suc p) = omega (arith, before, after, ap length h) in
-      let there : Absent g (suc p) → ⊥ = λ none. none_some none k in (
-        (there, omega arith, omega (arith, one, few (suc p))),
-        ap (λ (q : Quote). Some (record { from = suc p; over = q }))
-            (ap (λ (o : Option rules.Client). quoted (suc p) o (holding g (suc p) + 1)) k ∙ (ap (λ (n : ℕ). quoted (suc p) (Some y) n) one ∙ ap (λ (o : Option rules.Client). quoted (suc p) o (holding b (suc p))) (sym e))),
-      )
+      let one : holding g (suc p) + 1 ≡ holding b (suc p) = omega (arith, ap held_of e, ap held_of k, ap length h) in
+      (((λ none. none_some none k), omega arith, omega (arith, one, few (suc p))), rw (one, k, e))
 
   pub leaves : (s : SlipNumbers) (g : rules.Broker) → holding g c ≤ 4_096 → s.former ≢ c → Step m b (Ask c) (Ok (Granted s)) g → Leaves m b c s g
   leaves s g most other (Calls.granted_free {f = f} {fs = fs} {x = x} clear e h) = record { asker = refl; some = given b.clients x f g most refl; less = tt; over = refl }
   leaves s g most other (Calls.granted_from {p = p} {f = f} {fs = fs} {x = x} {y = y} clear e h may i k) =
-      let t = taken p f fs y g i k (put_off (put b.clients p (Some (with_stack y fs))) c (Some (with_stack x (f ∷ x.stack))) p other ∙ put_at b.clients p (Some (with_stack y fs))) in
+      let t = taken p f fs y g i k (put_off _ c _ p other ∙ put_at b.clients p (Some (with_stack y fs))) in
       record { asker = refl; some = given (put b.clients p (Some (with_stack y fs))) x f g most refl; less = t.0; over = t.1 }
 
 -- the slip that opened the passage is delivered
@@ -81,26 +65,16 @@ module _ {P : Type 0} {ghosts : Ghosts P} {b g : Broker P ghosts} {c : ℕ} {s :
 
   -- the prices that are printed of the slip are there
   pub has_prices : HasPrice (view g) s.client 0 × Lost (view g) s.former
-  has_prices = (subst (λ (n : ℕ). HasPrice (view g) n 0) (sym left_by.asker) left_by.some, left_by.less)
+  has_prices = (rw left_by.asker left_by.some, left_by.less)
 
-  module _ {d : Broker P ghosts} (t : Stepped g (Deliver s) (Ok Done) d) where
-    abbrev calls : List history.Event
-    calls = history.event (Deliver s) (Ok Done) (view d) ∷ history.event (Ask c) (Ok (Granted s)) (view g) ∷ []
-
-    delivery : Step m (view g) (Deliver s) (Ok Done) (view d)
-    delivery = subst (λ (p : P). Step (ghosts.meaning p) (view g) (Deliver s) (Ok Done) (view d)) a.price t.step
-
-    -- what is printed of the slip, with the asker's price at a count
-    abbrev paid : ℕ → Option Taken → Grant
-    paid n k = record { client = s.client; frame = s.frame; paying = price_at m (view g) s.client n; taken = k }
-
-    -- what is printed of the ask is its grant
-    pub ask_printed : {p : Grant} → p ≡ grant_after (meaning g) (view g) s → Performed b (event.Ask c) (Ok (line.Grant p)) d
-    ask_printed {p = p} e =
-        let none_more : holding (view g) s.client + 0 ≡ holding (view g) s.client = omega arith in
-        let same : p ≡ grant_of m (view b) s (view g) = e ∙ (ap (λ (q : P). grant_after (ghosts.meaning q) (view g) s) a.price
-        ∙ (ap (λ (n : ℕ). paid n (taken_from m (view g) s.former)) none_more ∙ ap (λ (k : Option Taken). paid (holding (view g) s.client) k) left_by.over)) in
-        record {
-          performs = (calls, subst (λ (q : Grant). session.Performs m (view b) (event.Ask c) (Ok (line.Grant q)) calls (view d)) (sym same) (granted a.step delivery));
-          price = t.price ∙ a.price;
-        }
+  -- what is printed of the ask is its grant
+  pub ask_printed : {d : Broker P ghosts} → Stepped g (Deliver s) (Ok Done) d → {p : Grant} → p ≡ grant_after (meaning g) (view g) s → Performed b (event.Ask c) (Ok (line.Grant p)) d
+  ask_printed {d} t {p} e =
+      let same : p ≡ grant_of m (view b) s (view g) = rw (meaning, a.price, add-zero, left_by.over) at e in
+      record {
+        performs = (
+          history.event (Deliver s) (Ok Done) (view d) ∷ history.event (Ask c) (Ok (Granted s)) (view g) ∷ [],
+          rw same (granted a.step (rw (meaning, a.price) at t.step)),
+        );
+        price = t.price ∙ a.price;
+      }

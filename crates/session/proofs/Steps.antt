@@ -1,6 +1,6 @@
 -- Calls as the events of lines.
 use Rattle.std.specs.Result.{IsOkAnd, MatchResult}
-use Rattle.std.proofs.Common.{◌≡◌, ℕ, List, [], ◌∷◌, ◌++◌, take, Ok, Err, Result, sym, refl, subst}
+use Rattle.std.proofs.Common.{◌≡◌, ℕ, List, [], ◌∷◌, ◌++◌, take, Ok, Err, Result, refl}
 use Rattle.rules.specs.Offers.{Meaning}
 use Rattle.rules.specs.declared.refusal.Refusal.{Refusal}
 use Rattle.events.specs.declared.event.Event.{Event}
@@ -31,35 +31,30 @@ performed {q = Err y} (Ok t) prints told s h = absurd h
 performed (Err y) prints told s h = rw h (refused_call s)
 
 -- calls that a line made, after those that led to the broker
-performs_run : (m : Meaning) (o b : rules.Broker) (h : List history.Event) (e : Event) (r : Result Printed Refusal) (calls : List history.Event) (d : rules.Broker) → Run m o h b → Performs m b e r calls d → Run m o (calls ++ h) d
-performs_run m o b h e r calls d run (session.started s) = then run s
-performs_run m o b h e r calls d run (session.admitted s) = then run s
-performs_run m o b h e r calls d run (session.granted s t) = then (then run s) t
-performs_run m o b h e r calls d run (session.handed_back s) = then run s
-performs_run m o b h e r calls d run (session.left s) = then run s
-performs_run m o b h e r calls d run (session.estimated s) = then run s
-performs_run m o b h e r calls d run (session.clocked s) = then run s
-performs_run m o b h e r calls d run (session.refused s) = then run s
+performs_run : {m : Meaning} {o b d : rules.Broker} {h calls : List history.Event} {e : Event} {r : Result Printed Refusal} → Run m o h b → Performs m b e r calls d → Run m o (calls ++ h) d
+performs_run run (session.started s) = then run s
+performs_run run (session.admitted s) = then run s
+performs_run run (session.granted s t) = then (then run s) t
+performs_run run (session.handed_back s) = then run s
+performs_run run (session.left s) = then run s
+performs_run run (session.estimated s) = then run s
+performs_run run (session.clocked s) = then run s
+performs_run run (session.refused s) = then run s
 
-line_run : (m : Meaning) (o b : rules.Broker) (h : List history.Event) (text : List ℕ) (r : Result Printed Refusal) (calls : List history.Event) (d : rules.Broker) → Run m o h b → LinePerforms m b text r calls d → Run m o (calls ++ h) d
-line_run m o b h text r calls d run (session.performed {e = e} v p) = performs_run m o b h e r calls d run p
-line_run m o b h text r calls d run (session.malformed v) = run
+line_run : {m : Meaning} {o b d : rules.Broker} {h calls : List history.Event} {text : List ℕ} {r : Result Printed Refusal} → Run m o h b → LinePerforms m b text r calls d → Run m o (calls ++ h) d
+line_run run (session.performed v p) = performs_run run p
+line_run run (session.malformed v) = run
 
 module _ {P : Type 0} {g : Ghosts P} {text : List ℕ} {before after : Broker P g} where
-  judged : (r : Result Printed Refusal) →
+  judged : {r : Result Printed Refusal} →
       ((whole : List ℕ) → take 80 whole ≡ take 80 text → (calls : List history.Event) × LinePerforms (meaning before) (view before) whole r calls (view after)) →
       after.price ≡ before.price → Judged before text r after
-  judged r performs price =
-      record {
-        performs = performs;
-        price = price;
-        history = λ h calls whole led made. subst (λ (p : P). Run (g.meaning p) rules.new_broker (calls ++ h) (view after)) (sym price) (line_run (meaning before) rules.new_broker (view before) h whole r calls (view after) led made);
-      }
+  judged performs price = record { performs = performs; price = price; history = λ h calls whole led made. rw (meaning, price) (line_run led made) }
 
   -- a line that says an event
   pub event_judged : {e : Event} {r : Result Printed Refusal} → ((whole : List ℕ) → take 80 whole ≡ take 80 text → Verdict whole (Ok e)) → Performed before e r after → Judged before text r after
-  event_judged {r = r} verdict p = judged r (λ whole same. (p.performs.0, session.performed (verdict whole same) p.performs.1)) p.price
+  event_judged verdict p = judged (λ whole same. (p.performs.0, session.performed (verdict whole same) p.performs.1)) p.price
 
 -- a malformed line
 pub fault_judged : {P : Type 0} {g : Ghosts P} {b : Broker P g} {text : List ℕ} {r : Refusal} → ((whole : List ℕ) → take 80 whole ≡ take 80 text → Verdict whole (Err r)) → Judged b text (Err r) b
-fault_judged {r = r} verdict = judged (Err r) (λ whole same. ([], session.malformed (verdict whole same))) refl
+fault_judged verdict = judged (λ whole same. ([], session.malformed (verdict whole same))) refl
