@@ -1,22 +1,26 @@
 use Rattle.std.proofs.Common.{refl}
+use Rattle.std.proofs.lemmas.Result.{err_from_is_err_and}
 use Rattle.laws.specs.Calls.{refused}
+use Rattle.broker.specs.View.{meaning, view}
 use Rattle.broker.proofs.Asks.{granted_step}
 use Rattle.broker.proofs.Others.{asked_listed}
-use Rattle.broker.proofs.Steps.{stepped, stepped_exit}
+use Rattle.broker.proofs.Steps.{stepped}
 use Rattle.broker.proofs.broker.Broker.grant.Goals as goal
 
 pub returns-in_err-from-clause-step : goal.returns-in_err-from-clause-step
 returns-in_err-from-clause-step g c =
-    let b = c.args.self.now in
-    stepped_exit b b _ _ c.from_residual.result c.from_residual.ensures.1 (refused c.in_err-from.ensures) refl
+    let p = err_from_is_err_and c.from_residual.result c.from_residual.ensures.1 in
+    rw (p.1, p.2) (stepped (refused c.in_err-from.ensures) refl)
 
 pub invariant_of-self : goal.invariant_of-self
 invariant_of-self g c =
     let b = c.args.self.now in
-    let step = granted_step b c.args.client c.in_ok-from.ensures c.grant.ensures.grants c.unwrap-slip.ensures in
-    record { kept = asked_listed b c.args.client c.unwrap-slip.result _ c.relist.new.self c.relist-2.new.self step c.relist.ensures c.relist-2.ensures }
+    let (clear, source) = c.in_ok-from.ensures in
+    let step = granted_step (meaning b) (view b) refl (rw c.unwrap-slip.ensures at c.grant.ensures.grants) clear source.0 in
+    record { kept = asked_listed b step c.relist.ensures c.relist-2.ensures }
 
 pub returns-clause-step : goal.returns-clause-step
 returns-clause-step g c =
     let b = c.args.self.now in
-    stepped b _ (granted_step b c.args.client c.in_ok-from.ensures c.grant.ensures.grants c.unwrap-slip.ensures) refl
+    let (clear, source) = c.in_ok-from.ensures in
+    stepped (granted_step (meaning b) (view b) refl (rw c.unwrap-slip.ensures at c.grant.ensures.grants) clear source.0) refl
