@@ -7,8 +7,8 @@ use Rattle.rules.specs.Refusals.{First, Clear}
 use Rattle.rules.specs.declared.refusal.Refusal.TheVariants.{Outbid}
 use Rattle.laws.specs.ByNumber.{by_number}
 use Rattle.laws.specs.Broker as rules
-use Rattle.laws.specs.Broker.{SlipNumbers, holding, MayTake, IsOutbid}
-use Rattle.laws.specs.Calls.{Ask, Granted, Step, entries, asker_entries, IsClear, slip, granted_free, granted_from}
+use Rattle.laws.specs.Broker.{SlipNumbers, holding, LowestPayer, MayTake, IsOutbid}
+use Rattle.laws.specs.Calls.{Ask, Granted, Step, entries, asker_entries, IsClear, granted_free, granted_from}
 use Rattle.laws.proofs.Kept.{low_of, high_of, held_of}
 use Rattle.ledger.specs.Ledgers.{stack_of}
 use Rattle.heap.specs.Heaps.{Least}
@@ -22,7 +22,7 @@ use Rattle.price.specs.declared.key.Ranked.{Ranked}
 use Rattle.price.specs.Keys.{Keyed, KeyOf, outranks, leads}
 use Rattle.broker.specs.Bids.{listed}
 use Rattle.broker.specs.View.{Broker, meaning, view}
-use Rattle.broker.proofs.Bids.{next_bid, outbid_by_nobody, least_own, may_take_below, may_take_above, is_outbid, not_itself}
+use Rattle.broker.proofs.Bids.{next_bid, outbid_by_nobody, lowest_is, next_ranks, is_outbid, not_itself}
 use Rattle.broker.proofs.Noted.{noted_client, noted_key, noted_made}
 
 -- the error that stands in for none
@@ -30,12 +30,11 @@ pub error_is : {A E : Type 0} {e f : E} (o : Option A) → o ≡ None → Err f 
 error_is {A} {E} {e} {f} o none h = let same = rw none at h in cc
 
 -- a frame that was granted from where it may come from is a step
-pub granted_step : (m : Meaning) (v : rules.Broker) {c p : ℕ} {s : SlipNumbers} {w : rules.Broker} → v.clients 0 ≡ None → Grants v c p (Some s) w → IsClear m v (Ask c) → Source m v c p → Step m v (Ask c) (Ok (Granted s)) w
-granted_step m v nobody (grants.free it top) clear (inl (z, some)) = granted_free clear it top
-granted_step m v nobody (grants.free it top) clear (inr (none, may)) = cc
-granted_step m v nobody (grants.from off it its top) clear (inl (z, some)) = cc
-granted_step m v {c} {p} nobody (grants.from {f = f} off it its top) clear (inr (none, may)) =
-    subst (Step m v (Ask c) (Ok (Granted (slip v c f p)))) (cc) (granted_from clear it none may its top)
+pub granted_step : {m : Meaning} {v : rules.Broker} {c p : ℕ} {s : SlipNumbers} {w : rules.Broker} → v.clients 0 ≡ None → Grants v c p (Some s) w → IsClear m v (Ask c) × (Source m v c p × (p ≢ c)) → Step m v (Ask c) (Ok (Granted s)) w
+granted_step nobody (grants.free it top) (clear, (inl (z, some), ne)) = granted_free clear it top
+granted_step nobody (grants.free it top) (clear, (inr (none, may), ne)) = cc
+granted_step nobody (grants.from off it its top) (clear, (inl (z, some), ne)) = cc
+granted_step {m} {v} nobody (grants.from off it its top) (clear, (inr (none, may), ne)) = subst (Step m v (Ask _) (Ok (Granted _))) (cc) (granted_from clear it none may its top)
 
 module _ {P : Type 0} {g : Ghosts P} (b : Broker P g) (c : ℕ) (clear : Clear (asker_entries (view b) c)) (none_free : length (view b).free ≡ 0) where
   abbrev m : Meaning
@@ -52,8 +51,8 @@ module _ {P : Type 0} {g : Ghosts P} (b : Broker P g) (c : ℕ) (clear : Clear (
   nobody_lower none = last_refused (outbid_by_nobody m (view b) (listed b.payers) b.kept none c free)
 
   module _ (k : Ranked) (found : (o : ℕ) × Least leads (listed b.payers) o k) {x : Member} (e : by_number b.pool.members c ≡ Some x) {h : ℕ} (tall : h ≡ height b.pool c) where
-    least : Least leads (listed b.payers) k.client k
-    least = least_own m (view b) (listed b.payers) b.kept k found
+    lowest : LowestPayer m (view b) k.client
+    lowest = lowest_is m (view b) (listed b.payers) b.kept k found
 
     it : (view b).clients c ≡ Some (client_with x (stack_of b.pool.ledger c))
     it = noted_client b.pool c x e
@@ -68,18 +67,18 @@ module _ {P : Type 0} {g : Ghosts P} (b : Broker P g) (c : ℕ) (clear : Clear (
     from_payer may =
         let few : holding (view b) c + 1 ≤ 4_096 = omega (arith, clear.1.1.1.0, ap high_of it, x.few_frames) in
         let other : k.client ≢ c = λ q. not_itself m (view b) (g.lawful b.price) c (noted_made b.pool c x e) few (rw q at may) in
-        ((clear.0, (clear.1.0, (clear.1.1.0, (clear.1.1.1.0, ((λ o. o.1 k.client may), tt))))), (inr (free, may), other))
+        (assumption (λ (o : IsOutbid m (view b) c). o.1 k.client may), (inr (free, may), other))
 
     -- below its minimum a client takes a frame of the lowest payer
     pub taken_below : h < x.minimum → From
-    taken_below low = from_payer (may_take_below m (view b) (listed b.payers) b.kept k.client k least c (omega (arith, held, ap low_of it, low)))
+    taken_below low = from_payer (lowest, inl (omega (arith, held, ap low_of it, low)))
 
     module _ {j : Ranked} (key : Keyed m c x.minimum (offer_at x (h + 1)) j) where
       next : KeyOf m (next_bid m (view b) c) j
       next = rw held at (noted_key b.pool c x e m (h + 1) j key)
 
       pub outbid_by_lowest : x.minimum ≤ h → outranks j k ≡ false → First (entries m (view b) (Ask c)) Outbid
-      outbid_by_lowest low under = last_refused (is_outbid m (view b) (listed b.payers) b.kept k.client k least c j next (omega (arith, held, ap low_of it, low)) under free)
+      outbid_by_lowest low under = last_refused (is_outbid m (view b) (listed b.payers) b.kept k found c j next (omega (arith, held, ap low_of it, low)) under free)
 
       pub taken_above : outranks j k ≡ true → From
-      taken_above over = from_payer (may_take_above m (view b) (listed b.payers) b.kept k.client k least c j next over)
+      taken_above over = from_payer (lowest, inr (sym (next_ranks m (view b) (listed b.payers) b.kept k found c j next) ∙ over))

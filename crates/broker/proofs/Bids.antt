@@ -1,5 +1,5 @@
 -- What the listed bids tell of the broker that the rules speak of.
-use Rattle.std.proofs.Common.{◌≡◌, ℕ, ◌+◌, ◌<◌, ◌≤◌, true, false, ◌≢◌, ◌⊎◌, [], Some, None, MatchOption, Option, sym, refl, ◌∙◌, subst, inl, inr, arith}
+use Rattle.std.proofs.Common.{◌≡◌, ℕ, ◌+◌, ◌<◌, ◌≤◌, false, ◌≢◌, ◌⊎◌, [], Some, None, MatchOption, Option, sym, refl, ◌∙◌, subst, inl, inr, arith}
 use Rattle.std.proofs.lemmas.Bool.{not-true, both_ways}
 use Rattle.rules.specs.Offers.{Meaning, Lawful}
 use Rattle.rules.specs.declared.offer.Bid.{Bid}
@@ -20,7 +20,7 @@ use Rattle.broker.specs.Bids.{listed, Lists, Listed, Relisted}
 
 module _ (m : Meaning) (v : Broker) where
   -- the bid of a client at its holding, and for a frame more
-  abbrev bid : ℕ → Bid
+  abbrev pub bid : ℕ → Bid
   bid c = bid_of (present v) c (holding v c)
 
   abbrev pub next_bid : ℕ → Bid
@@ -42,42 +42,35 @@ module _ (m : Meaning) (v : Broker) where
     pub outbid_by_nobody : ((o : ℕ) → ks o ≡ None) → (c : ℕ) → v.free ≡ [] → IsOutbid m v c
     outbid_by_nobody none c e = (e, λ p t. nobody_pays none p t.0.beyond)
 
-    -- the lowest bid says whose it is
-    pub least_own : (k : Ranked) → (c : ℕ) × Least leads ks c k → Least leads ks k.client k
-    least_own k (c, least) = subst (λ (n : ℕ). Least leads ks n k) (sym (listed_bid c k least.has).1.client) least
+    module _ (k : Ranked) (found : (o : ℕ) × Least leads ks o k) where
+      -- the lowest bid says whose it is
+      least : Least leads ks k.client k
+      least = subst (λ (n : ℕ). Least leads ks n k) (sym (listed_bid found.0 k found.1.has).1.client) found.1
 
-    module _ (p : ℕ) (k : Ranked) (least : Least leads ks p k) where
-      lowest_is : LowestPayer m v p
+      pub lowest_is : LowestPayer m v k.client
       lowest_is =
+          let (beyond, own) = listed_bid k.client k least.has in
           record {
-            beyond = (listed_bid p k least.has).0;
-            lowest = λ d g.
-                let (j, e, u) = in_list d (ks d) (all d) g in
-                sym (ranks_bids k j m (bid p) (bid d) (listed_bid p k least.has).1 u) ∙ not-true (outranks k j) (least.leads d j e);
+            beyond = beyond;
+            lowest = λ d g. let (j, e, u) = in_list d (ks d) (all d) g in sym (ranks_bids k j m (bid k.client) (bid d) own u) ∙ not-true (outranks k j) (least.leads d j e);
           }
-
-      pub may_take_below : (c : ℕ) → holding v c < minimum_of (present v) c → MayTake m v c p
-      may_take_below c g = (lowest_is, inl g)
 
       module _ (c : ℕ) (j : Ranked) (next : KeyOf m (next_bid c) j) where
         -- the rank of a client's next bid over the lowest listed is that of the rules
-        next_ranks : outranks j k ≡ above m (next_bid c) (bid p)
-        next_ranks = ranks_bids j k m (next_bid c) (bid p) next (listed_bid p k least.has).1
-
-        pub may_take_above : outranks j k ≡ true → MayTake m v c p
-        may_take_above g = (lowest_is, inr (sym next_ranks ∙ g))
+        pub next_ranks : outranks j k ≡ above m (next_bid c) (bid k.client)
+        next_ranks = ranks_bids j k m (next_bid c) (bid k.client) next (listed_bid k.client k least.has).1
 
         pub is_outbid : minimum_of (present v) c ≤ holding v c → outranks j k ≡ false → v.free ≡ [] → IsOutbid m v c
         is_outbid low under e = (e, λ q t. refuse q t.0 t.1)
           where
             refuse : (q : ℕ) → LowestPayer m v q → (holding v c < minimum_of (present v) c) ⊎ Above m (next_bid c) (bid q) → ⊥
             refuse q l (inl g) = omega arith
-            refuse q l (inr g) = both_ways (outranks j k) under (next_ranks ∙ rw (one_payer m v q p l lowest_is) at g)
+            refuse q l (inr g) = both_ways (outranks j k) under (next_ranks ∙ rw (one_payer m v q k.client l lowest_is) at g)
 
     -- the client of the lowest bid, where there is one, is the lowest payer
     pub lowest_told : (o : Option Ranked) (r : Option ℕ) → MatchOption o ((c : ℕ) → ks c ≡ None) (λ k. (c : ℕ) × Least leads ks c k) →
         MatchOption o (r ≡ None) (λ k. r ≡ Some k.client) → LowestIs m v r
-    lowest_told (Some k) r found told = rw told (lowest_is k.client k (least_own k found))
+    lowest_told (Some k) r found told = rw told (lowest_is k found)
     lowest_told None r none told = rw told (nobody_pays none)
 
   -- who may take a frame does not take it from itself

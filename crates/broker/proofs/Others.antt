@@ -6,7 +6,7 @@ use Rattle.rules.specs.declared.call.Admission.{Admission}
 use Rattle.laws.specs.Broker as rules
 use Rattle.laws.specs.Broker.{SlipNumbers}
 use Rattle.laws.specs.Calls
-use Rattle.laws.specs.Calls.{Step, Call, Start, Admit, Ask, Deliver, HandBack, Leave, SetEstimate, SetClock, Answer, Granted, newcomer}
+use Rattle.laws.specs.Calls.{Step, Call, Start, Admit, Ask, Deliver, HandBack, Leave, SetEstimate, SetClock, Answer, Granted}
 use Rattle.laws.proofs.Kept.{held_of}
 use Rattle.laws.proofs.Puts.{each_but, put_at, put_off}
 use Rattle.price.specs.declared.key.Ranked.{Ranked}
@@ -32,40 +32,31 @@ Spares (SetClock t) (Ok a) d = ⊥
 step_others : {m : Meaning} {b : rules.Broker} {x : Call} {a : Result Answer Refusal} {w : rules.Broker} → Step m b x a w → (d : ℕ) → Spares x a d → w.clients d ≡ b.clients d
 step_others (Calls.refused q) d o = refl
 step_others (Calls.started s) d o = refl
-step_others {b = b} (Calls.admitted s) d o = put_off b.clients _ _ d o
-step_others {b = b} (Calls.granted_free s g h) d o = put_off b.clients _ _ d o.0
-step_others {b = b} (Calls.granted_from {c = c} {p = p} s g h k l n) d o = put_off _ c _ d o.0 ∙ put_off b.clients p _ d o.1
+step_others (Calls.admitted s) d o = put_off _ _ _ d o
+step_others (Calls.granted_free s g h) d o = put_off _ _ _ d o.0
+step_others (Calls.granted_from s g h k l n) d o = put_off _ _ _ d o.0 ∙ put_off _ _ _ d o.1
 step_others (Calls.delivered s) d o = refl
-step_others {b = b} (Calls.handed_back s g h) d o = put_off b.clients _ _ d o
-step_others {b = b} (Calls.left s g) d o = put_off b.clients _ _ d o
-step_others {b = b} (Calls.estimated s g) d o = put_off b.clients _ _ d o
+step_others (Calls.handed_back s g h) d o = put_off _ _ _ d o
+step_others (Calls.left s g) d o = put_off _ _ _ d o
+step_others (Calls.estimated s g) d o = put_off _ _ _ d o
 step_others (Calls.clocked s) d o = absurd o
 
-module _ {P : Type 0} {g : Ghosts P} (b : Broker P g) {x : Call} {a : Result Answer Refusal} {w : rules.Broker} (s : Step (meaning b) (view b) x a w) where
-  -- whom a call spares it leaves listed
-  spared_one : (d : ℕ) → Spares x a d → Lists (meaning b) w d (listed b.payers d)
-  spared_one d o = same_lists (meaning b) (view b) w d (step_others s d o) (listed b.payers d) (b.kept d)
-
-  -- a call that spares all clients leaves them listed
-  pub spared : ((d : ℕ) → Spares x a d) → Listed (meaning b) w (listed b.payers)
-  spared all d = spared_one d (all d)
-
-  -- a call that spares all but one client leaves them listed, once that client is listed anew
-  pub spared_but : {c : ℕ} {q : Payers} → Relisted (meaning b) w c b.payers q → ((d : ℕ) → d ≢ c → Spares x a d) → Listed (meaning b) w (listed q)
-  spared_but r all = relisted r (λ d ne. spared_one d (all d ne))
+-- whom a call spares it leaves listed
+pub spared : {P : Type 0} {g : Ghosts P} (b : Broker P g) {x : Call} {a : Result Answer Refusal} {w : rules.Broker} → Step (meaning b) (view b) x a w → (d : ℕ) → Spares x a d → Lists (meaning b) w d (listed b.payers d)
+spared b {w = w} s d o = same_lists (meaning b) (view b) w d (step_others s d o) (listed b.payers d) (b.kept d)
 
 -- an ask leaves them listed, once the client that asks and then the former owner are listed anew
 pub asked_listed : {P : Type 0} {g : Ghosts P} (b : Broker P g) {c : ℕ} {s : SlipNumbers} {w : rules.Broker} {p q : Payers} → Step (meaning b) (view b) (Ask c) (Ok (Granted s)) w →
     Relisted (meaning b) w c b.payers p → Relisted (meaning b) w s.former p q → Listed (meaning b) w (listed q)
 asked_listed b {c} {s} {w} {p} step r t =
-    relisted t (each_but c (λ d. d ≢ s.former → Lists (meaning b) w d (listed p d)) (λ n. r.anew) (λ d ne n. rw (r.others d ne) (spared_one b step d (ne, n))))
+    relisted t (each_but c (λ d. d ≢ s.former → Lists (meaning b) w d (listed p d)) (λ n. r.anew) (λ d ne n. rw (r.others d ne) (spared b step d (ne, n))))
 
 -- a client that is admitted holds nothing, and was not listed before
 pub admitted_listed : {P : Type 0} {g : Ghosts P} (b : Broker P g) {x : Admission} {a : Result Answer Refusal} {w : rules.Broker} → Step (meaning b) (view b) (Admit x) a w → Listed (meaning b) w (listed b.payers)
 admitted_listed b (Calls.refused q) = b.kept
 admitted_listed b {x} {a} {w} (Calls.admitted clear) =
-    each_but x.client (λ d. Lists (meaning b) w d (listed b.payers d)) (fresh (listed b.payers x.client) (b.kept x.client)) (spared_one b (Calls.admitted clear))
+    each_but x.client (λ d. Lists (meaning b) w d (listed b.payers d)) (fresh (listed b.payers x.client) (b.kept x.client)) (spared b (Calls.admitted clear))
   where
     fresh : (o : Option Ranked) → Lists (meaning b) (view b) x.client o → Lists (meaning b) w x.client o
-    fresh None _ = rw (put_at (view b).clients x.client (Some (newcomer x))) (λ far. omega arith)
+    fresh None _ = rw put_at (omega arith)
     fresh (Some j) was = absurd (clear.1.1.1.1.1.0 (λ none. omega (arith, was.0, ap held_of none)))

@@ -1,11 +1,12 @@
 use Rattle.std.proofs.Common.{refl}
 use Rattle.std.proofs.lemmas.Result.{err_from_is_err_and}
-use Rattle.broker.proofs.Others.{spared, spared_but}
+use Rattle.broker.proofs.Bids.{relisted}
+use Rattle.broker.proofs.Others.{spared}
 use Rattle.broker.proofs.Steps.{stepped}
 use Rattle.broker.proofs.broker.Broker.estimate.Goals as goal
 
 pub invariant_of-self : goal.invariant_of-self
-invariant_of-self g c = record { kept = spared c.args.self.now (c.in_err-estimate.ensures _) (λ d. tt) }
+invariant_of-self g c = record { kept = λ d. spared c.args.self.now (c.in_err-estimate.ensures _) d tt }
 
 pub returns-in_err-estimate : goal.returns-in_err-estimate
 returns-in_err-estimate g c =
@@ -13,7 +14,7 @@ returns-in_err-estimate g c =
     rw (p.1, p.2) (stepped (c.in_err-estimate.ensures _) refl)
 
 pub invariant_of-self-2 : goal.invariant_of-self-2
-invariant_of-self-2 g c = record { kept = spared_but c.args.self.now (c.in_ok-estimate.ensures _) c.relist.ensures (λ d ne. ne) }
+invariant_of-self-2 g c = record { kept = relisted c.relist.ensures (spared c.args.self.now (c.in_ok-estimate.ensures _)) }
 
 pub returns : goal.returns
 returns g c = stepped (c.in_ok-estimate.ensures _) refl

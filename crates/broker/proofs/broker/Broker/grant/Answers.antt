@@ -1,7 +1,6 @@
 use Rattle.std.proofs.Common.{refl}
 use Rattle.std.proofs.lemmas.Result.{err_from_is_err_and}
 use Rattle.laws.specs.Calls.{refused}
-use Rattle.broker.specs.View.{meaning, view}
 use Rattle.broker.proofs.Asks.{granted_step}
 use Rattle.broker.proofs.Others.{asked_listed}
 use Rattle.broker.proofs.Steps.{stepped}
@@ -14,13 +13,8 @@ returns-in_err-from-clause-step g c =
 
 pub invariant_of-self : goal.invariant_of-self
 invariant_of-self g c =
-    let b = c.args.self.now in
-    let (clear, source) = c.in_ok-from.ensures in
-    let step = granted_step (meaning b) (view b) refl (rw c.unwrap-slip.ensures at c.grant.ensures.grants) clear source.0 in
-    record { kept = asked_listed b step c.relist.ensures c.relist-2.ensures }
+    let step = granted_step refl (rw c.unwrap-slip.ensures at c.grant.ensures.grants) c.in_ok-from.ensures in
+    record { kept = asked_listed c.args.self.now step c.relist.ensures c.relist-2.ensures }
 
 pub returns-clause-step : goal.returns-clause-step
-returns-clause-step g c =
-    let b = c.args.self.now in
-    let (clear, source) = c.in_ok-from.ensures in
-    stepped (granted_step (meaning b) (view b) refl (rw c.unwrap-slip.ensures at c.grant.ensures.grants) clear source.0) refl
+returns-clause-step g c = stepped (granted_step refl (rw c.unwrap-slip.ensures at c.grant.ensures.grants) c.in_ok-from.ensures) refl
