@@ -1,14 +1,14 @@
 -- Asks: the prices that are printed of a grant, and its delivery.
 use Rattle.std.specs.Result.{IsOk}
-use Rattle.std.proofs.Common.{◌≡◌, ℕ, zero, suc, ◌+◌, ◌≤◌, ◌≢◌, List, [], ◌∷◌, length, Some, Ok, Err, Option, Result, refl, ap, ◌∙◌, add-zero, inl, inr, arith}
+use Rattle.std.proofs.Common.{◌≡◌, ℕ, zero, suc, ◌+◌, ◌≤◌, ◌≢◌, List, [], ◌∷◌, length, Some, Ok, Err, Result, refl, ap, ◌∙◌, add-zero, arith}
 use Rattle.rules.specs.Offers.{Meaning}
-use Rattle.laws.specs.ByNumber.{put}
 use Rattle.laws.specs.Broker as rules
 use Rattle.laws.specs.Broker.{SlipNumbers, holding}
 use Rattle.laws.specs.Calls
 use Rattle.laws.specs.Calls.{Ask, Deliver, Done, Granted, Step, with_stack}
 use Rattle.laws.specs.Histories as history
 use Rattle.laws.proofs.Kept.{none_some, held_of}
+use Rattle.laws.proofs.One.{one_answer}
 use Rattle.laws.proofs.Puts.{put_at, put_off}
 use Rattle.broker.specs.declared.broker.Broker.{Broker}
 use Rattle.broker.specs.declared.slip.Undelivered.{Undelivered}
@@ -29,39 +29,33 @@ pub record Leaves (m : Meaning) (b : rules.Broker) (c : ℕ) (s : SlipNumbers) (
   pub over : taken_from m g s.former ≡ taken_of m b s.former
 
 module _ (m : Meaning) (b : rules.Broker) (few : (d : ℕ) → holding b d ≤ 4_096) (c : ℕ) where
-  given : (cs : ℕ → Option rules.Client) (x : rules.Client) (f : ℕ) (g : rules.Broker) → holding g c ≤ 4_096 → g.clients c ≡ put cs c (Some (with_stack x (f ∷ x.stack))) c → HasPrice g c 0
-  given cs x f g most e =
-      let it = e ∙ put_at cs c (Some (with_stack x (f ∷ x.stack))) in
-      ((λ none. none_some none it), omega (arith, ap held_of it), omega (arith, most))
+  given : (g : rules.Broker) {x : rules.Client} {f : ℕ} → holding g c ≤ 4_096 → g.clients c ≡ Some (with_stack x (f ∷ x.stack)) → HasPrice g c 0
+  given g most it = ((λ none. none_some none it), omega (arith, ap held_of it), omega (arith, most))
 
-  taken : (p f : ℕ) (fs : List ℕ) (y : rules.Client) (g : rules.Broker) → b.clients p ≡ Some y → y.stack ≡ f ∷ fs → g.clients p ≡ Some (with_stack y fs) →
+  taken : (p : ℕ) (y : rules.Client) (g : rules.Broker) {f : ℕ} {fs : List ℕ} → b.clients p ≡ Some y → y.stack ≡ f ∷ fs → g.clients p ≡ Some (with_stack y fs) →
       Lost g p × (taken_from m g p ≡ taken_of m b p)
-  taken zero f fs y g e h k = (tt, refl)
-  taken (suc p) f fs y g e h k =
+  taken zero y g e h k = (tt, refl)
+  taken (suc p) y g e h k =
       let one : holding g (suc p) + 1 ≡ holding b (suc p) = omega (arith, ap held_of e, ap held_of k, ap length h) in
       (((λ none. none_some none k), omega arith, omega (arith, one, few (suc p))), rw (one, k, e))
 
-  pub leaves : (s : SlipNumbers) (g : rules.Broker) → holding g c ≤ 4_096 → s.former ≢ c → Step m b (Ask c) (Ok (Granted s)) g → Leaves m b c s g
-  leaves s g most other (Calls.granted_free {f = f} {fs = fs} {x = x} clear e h) = record { asker = refl; some = given b.clients x f g most refl; less = tt; over = refl }
-  leaves s g most other (Calls.granted_from {p = p} {f = f} {fs = fs} {x = x} {y = y} clear e h may i k) =
-      let t = taken p f fs y g i k (put_off _ c _ p other ∙ put_at b.clients p (Some (with_stack y fs))) in
-      record { asker = refl; some = given (put b.clients p (Some (with_stack y fs))) x f g most refl; less = t.0; over = t.1 }
+  pub leaves : {s : SlipNumbers} {g : rules.Broker} → holding g c ≤ 4_096 → s.former ≢ c → Step m b (Ask c) (Ok (Granted s)) g → Leaves m b c s g
+  leaves {g = g} most other (Calls.granted_free clear e h) = record { asker = refl; some = given g most (put_at _ _ _); less = tt; over = refl }
+  leaves {g = g} most other (Calls.granted_from {p = p} {y = y} clear e h may i k) =
+      let t = taken p y g i k (put_off _ _ _ _ other ∙ put_at _ _ _) in
+      record { asker = refl; some = given g most (put_at _ _ _); less = t.0; over = t.1 }
 
 -- the slip that opened the passage is delivered
 pub delivers : {P : Type 0} {o : Ghosts P} {g d : Broker P o} {s : SlipNumbers} (r : Result (Unit {0}) Undelivered) → (view g).passage ≡ Some s → Stepped g (Deliver s) (delivered r) d → IsOk r
 delivers (Ok x) e t = refl
-delivers {g = g} {d = d} {s = s} (Err u) e t = absurd (not_refused (view d) t.step)
-  where
-    not_refused : (w : rules.Broker) → Step (meaning g) (view g) (Deliver s) (Err u.refusal) w → ⊥
-    not_refused w (Calls.refused (inl (h, _))) = h e
-    not_refused w (Calls.refused (inr (_, h))) = h
+delivers {g = g} (Err u) e t = let o = (one_answer (meaning g) (view g) _ _ _ _ _ (Calls.delivered ((λ other. other e), tt)) t.step).0 in cc
 
 module _ {P : Type 0} {ghosts : Ghosts P} {b g : Broker P ghosts} {c : ℕ} {s : SlipNumbers} (a : Stepped b (Ask c) (Ok (Granted s)) g) (o : Opens c s g) where
   abbrev m : Meaning
   m = meaning b
 
   left_by : Leaves m (view b) c s (view g)
-  left_by = leaves m (view b) (few_held b.pool) c s (view g) (few_held g.pool c) o.1 a.step
+  left_by = leaves m (view b) (few_held b.pool) c (few_held g.pool c) o.1 a.step
 
   -- the prices that are printed of the slip are there
   pub has_prices : HasPrice (view g) s.client 0 × Lost (view g) s.former

@@ -46,7 +46,7 @@ module _ (m : Meaning) (b : Broker) where
   event_once (session.refused t) p = let o = refused_once p t in (sym o.0, sym o.1)
 
   line_once : {text : List ℕ} {r q : Result Printed Refusal} {h k : List history.Event} {d w : Broker} → LinePerforms m b text r h d → LinePerforms m b text q k w → (r ≡ q) × (d ≡ w)
-  line_once {text} {r} {h = h} {d = d} (session.performed {e = e} v s) (session.performed {e = f} u t) =
+  line_once {text} (session.performed {e = e} v s) (session.performed {e = f} u t) =
       let same : e ≡ f = (let z = one_verdict text (Ok e) (Ok f) v u in cc) in
       event_once (rw same at s) t
   line_once {text} (session.performed {e = e} v s) (session.malformed {r = o} u) = let z = one_verdict text (Ok e) (Err o) v u in (cc, cc)

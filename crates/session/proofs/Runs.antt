@@ -49,30 +49,30 @@ module _ {P : Type 0} {g : Ghosts P} (before : Run P g) where
   At s vs = StillAt m b before.number rest s vs
 
   -- the end of the report
-  pub none_next : (k : ℕ) → before.stage ≡ Reporting k → NextClient b k None → Nexts before None before
-  none_next k e h =
+  pub none_next : {k : ℕ} → before.stage ≡ Reporting k → NextClient b k None → Nexts before None before
+  none_next e h =
       let nothing : At before.stage [] = rw e (over h) in
       record { prints = (nothing, nothing); continues = stays refl; falls = tt }
 
-  module _ (after : Run P g) (p : Printed) where
+  module _ {after : Run P g} {p : Printed} where
     -- a value of the report, which leaves the broker
-    reported : (k : ℕ) → after.session ≡ before.session → after.stage ≡ Reporting k → ((vs : List Printed) → Reports m b k vs → At before.stage (p ∷ vs)) →
+    reported : {k : ℕ} → after.session ≡ before.session → after.stage ≡ Reporting k → ((vs : List Printed) → Reports m b k vs → At before.stage (p ∷ vs)) →
         left_at (length after.lines.rest.now) (Reporting k) < left before → Nexts before (Some p) after
-    reported k same e prints less = record { prints = λ vs more. prints vs (rw (e, same) at more); continues = stays same; falls = rw e less }
+    reported same e prints less = record { prints = λ vs more. prints vs (rw (e, same) at more); continues = stays same; falls = rw e less }
 
     -- the head of the report, where no line is left
     pub free_next : before.stage ≡ Reading → rest ≡ [] → after.session ≡ before.session → after.stage ≡ Reporting 0 → p ≡ line.Free (length b.free) → Nexts before (Some p) after
-    free_next e empty same now told = reported 0 same now (λ vs more. rw (told, e) ([], input.none empty, report more)) (rw e (omega arith))
+    free_next e empty same now told = reported same now (λ vs more. rw (told, e) ([], input.none empty, report more)) (rw e (omega arith))
 
     -- one client of the report
-    pub client_next : (k c : ℕ) → before.stage ≡ Reporting k → NextClient b k (Some c) → after.session ≡ before.session → after.stage ≡ Reporting c → p ≡ line.Client c (held_of m b c) → Nexts before (Some p) after
-    client_next k c e h same now told =
-        reported c same now (λ vs more. rw (told, e) (client h more)) (rw e (omega (arith, there_numbered before.session.broker.pool c h.1, h.0)))
+    pub client_next : {k c : ℕ} → before.stage ≡ Reporting k → NextClient b k (Some c) → after.session ≡ before.session → after.stage ≡ Reporting c → p ≡ line.Client c (held_of m b c) → Nexts before (Some p) after
+    client_next {c = c} e h same now told =
+        reported same now (λ vs more. rw (told, e) (client h more)) (rw e (omega (arith, there_numbered before.session.broker.pool c h.1, h.0)))
 
     -- the next line
-    pub line_next : (text : List ℕ) → before.stage ≡ Reading → NextLine rest (Some text) after.lines.rest.now → length after.lines.rest.now < length rest →
+    pub line_next : {text : List ℕ} → before.stage ≡ Reading → NextLine rest (Some text) after.lines.rest.now → length after.lines.rest.now < length rest →
         Lined (before.number + 1) before.session.broker text p after.session.broker → after.number ≡ before.number + 1 → after.stage ≡ before.stage → Nexts before (Some p) after
-    line_next text e (whole, head, cuts) less (r, told, j) raised still =
+    line_next {text} e (whole, head, cuts) less (r, told, j) raised still =
         record {
           prints = λ vs more.
               let (texts, cut, all) = rw (still, e) at more in
