@@ -23,7 +23,7 @@ use Rattle.price.specs.Keys.{Keyed, KeyOf, outranks, leads}
 use Rattle.broker.specs.Bids.{listed}
 use Rattle.broker.specs.View.{Broker, meaning, view}
 use Rattle.broker.proofs.Bids.{next_bid, outbid_by_nobody, lowest_is, next_ranks, is_outbid, not_itself}
-use Rattle.broker.proofs.Noted.{noted_client, noted_key, noted_made}
+use Rattle.broker.proofs.Noted.{noted_client, noted_made}
 
 -- the error that stands in for none
 pub error_is : {A E : Type 0} {e f : E} (o : Option A) → o ≡ None → Err f ≡ ok_or o e → f ≡ e
@@ -54,6 +54,7 @@ module _ {P : Type 0} {g : Ghosts P} (b : Broker P g) (c : ℕ) (clear : Clear (
     lowest : LowestPayer m (view b) k.client
     lowest = lowest_is m (view b) (listed b.payers) b.kept k found
 
+    -- the asker, and how many frames it holds
     it : (view b).clients c ≡ Some (client_with x (stack_of b.pool.ledger c))
     it = noted_client b.pool c x e
 
@@ -74,8 +75,9 @@ module _ {P : Type 0} {g : Ghosts P} (b : Broker P g) (c : ℕ) (clear : Clear (
     taken_below low = from_payer (lowest, inl (omega (arith, held, ap low_of it, low)))
 
     module _ {j : Ranked} (key : Keyed m c x.minimum (offer_at x (h + 1)) j) where
+      -- the asker's bid for a frame more
       next : KeyOf m (next_bid m (view b) c) j
-      next = rw held at (noted_key b.pool c x e m (h + 1) j key)
+      next = rw (e, ← tall) key
 
       pub outbid_by_lowest : x.minimum ≤ h → outranks j k ≡ false → First (entries m (view b) (Ask c)) Outbid
       outbid_by_lowest low under = last_refused (is_outbid m (view b) (listed b.payers) b.kept k found c j next (omega (arith, held, ap low_of it, low)) under free)

@@ -52,7 +52,9 @@ module _ (m : Meaning) (v : Broker) where
           let (beyond, own) = listed_bid k.client k least.has in
           record {
             beyond = beyond;
-            lowest = λ d g. let (j, e, u) = in_list d (ks d) (all d) g in sym (ranks_bids k j m (bid k.client) (bid d) own u) ∙ not-true (outranks k j) (least.leads d j e);
+            lowest = λ d g.
+                let (j, e, u) = in_list d (ks d) (all d) g in
+                sym (ranks_bids k j m (bid k.client) (bid d) own u) ∙ not-true (outranks k j) (least.leads d j e);
           }
 
       module _ (c : ℕ) (j : Ranked) (next : KeyOf m (next_bid c) j) where

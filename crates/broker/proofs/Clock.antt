@@ -5,7 +5,7 @@ use Rattle.laws.specs.Broker as rules
 use Rattle.laws.specs.Calls.{SetClock, Count, Step, IsClear, moved, ends, with_estimate}
 use Rattle.laws.proofs.Puts.{put_off}
 use Rattle.price.specs.declared.telling.Price.{Ghosts}
-use Rattle.pool.specs.Clocks.{Clocked, Dropped, at_tick}
+use Rattle.pool.specs.Clocks.{Clocked, Dropped, Drops, at_tick}
 use Rattle.pool.proofs.Clocks.{clocked_one, clocked_falls, clock_step}
 use Rattle.broker.specs.declared.payers.Payers.{Payers}
 use Rattle.broker.specs.Bids.{listed, Listed, Relisted}
@@ -23,14 +23,16 @@ dropping_falls {t} {v} {w} {c} x = rw x.after (omega (arith, clocked_falls t v.c
 
 module _ {P : Type 0} {g : Ghosts P} where
   module _ {t : ℕ} {before : Broker P g} {n : ℕ} {b : Broker P g} (sofar : Dropping t before n b) where
-    -- a look at the pool that drops nothing
-    pub dropping_none : {d : Broker P g} → d.price ≡ b.price → view d ≡ view b → Dropping t before n d
-    dropping_none price same =
-        record {
-          price = price ∙ sofar.price;
-          rest = subst (λ (w : rules.Broker). w ≡ moved (view before) (view before).free w.clients) (sym same) sofar.rest;
-          clocked = subst (λ (w : rules.Broker). Clocked t (view before).clients n w.clients) (sym same) sofar.clocked;
-        }
+    -- a look at the pool that finds no more to drop
+    pub all_dropped : {d : Broker P g} → d.price ≡ b.price → Drops t (view b) None (view d) → Ended t before n d
+    all_dropped price (same, none) = (
+      record {
+        price = price ∙ sofar.price;
+        rest = subst (λ (w : rules.Broker). w ≡ moved (view before) (view before).free w.clients) (sym same) sofar.rest;
+        clocked = subst (λ (w : rules.Broker). Clocked t (view before).clients n w.clients) (sym same) sofar.clocked;
+      },
+      subst (λ (w : rules.Broker). (c : ℕ) → ends t (w.clients c) ≡ 0) (sym same) none,
+    )
 
     pub dropping_one : {c : ℕ} {d : Broker P g} → Dropped t (view b) c (view d) → d.price ≡ b.price → Dropping t before (n + 1) d
     dropping_one {c} {d} x price =

@@ -1,7 +1,6 @@
 -- What is noted of a client in the pool, and what the rules say of it.
 use Rattle.std.proofs.Common.{◌≡◌, ℕ, ◌≤◌, length, Some, inl, inr, ap, arith}
 use Rattle.std.proofs.lemmas.Bool.{cases_lt}
-use Rattle.rules.specs.Offers.{Meaning}
 use Rattle.rules.specs.Laws.{Made}
 use Rattle.laws.specs.ByNumber.{by_number}
 use Rattle.laws.specs.Division.{bid_of}
@@ -9,12 +8,9 @@ use Rattle.laws.specs.Broker.{present}
 use Rattle.ledger.specs.Ledgers.{stack_of}
 use Rattle.ledger.proofs.Ledgers.{few_frames, holding_few, no_owner}
 use Rattle.pool.specs.declared.member.Member.{Member}
-use Rattle.pool.specs.Members.{offer_at}
 use Rattle.pool.specs.declared.pool.Pool.{Pool}
 use Rattle.pool.specs.View.{view}
 use Rattle.pool.proofs.Changes.{client_with}
-use Rattle.price.specs.declared.key.Ranked.{Ranked}
-use Rattle.price.specs.Keys.{Keyed, KeyOf}
 
 -- no stack has more frames than a pool can have
 pub few_stacked : (b : Pool) (c : ℕ) → length (stack_of b.ledger c) ≤ 4_096
@@ -27,9 +23,6 @@ few_stacked b c =
 module _ (b : Pool) (c : ℕ) (x : Member) (e : by_number b.members c ≡ Some x) where
   pub noted_client : (view b).clients c ≡ Some (client_with x (stack_of b.ledger c))
   noted_client = rw e
-
-  pub noted_key : (m : Meaning) (k : ℕ) (r : Ranked) → Keyed m c x.minimum (offer_at x k) r → KeyOf m (bid_of (present (view b)) c k) r
-  noted_key m k r h = rw e h
 
   -- at every count of frames its bid can be made
   pub noted_made : (k : ℕ) → 1 ≤ k → k ≤ 4_096 → Made (bid_of (present (view b)) c k)

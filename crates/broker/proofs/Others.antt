@@ -16,7 +16,8 @@ use Rattle.broker.specs.Bids.{listed, Lists, Listed, Relisted}
 use Rattle.broker.specs.View.{Broker, meaning, view}
 use Rattle.broker.proofs.Bids.{same_lists, relisted}
 
--- the call, so answered, is not about this client: it neither makes the call nor gives a frame up to it
+-- the call, so answered, leaves this client: a refused one leaves all, an accepted one all but the client that it is of and,
+-- of an ask, the former owner; a clock may change any
 abbrev pub Spares : Call → Result Answer Refusal → ℕ → Type 0
 Spares (Start u F) a d = Unit {0}
 Spares (Deliver s) a d = Unit {0}
@@ -32,14 +33,11 @@ Spares (SetClock t) (Ok a) d = ⊥
 step_others : {m : Meaning} {b : rules.Broker} {x : Call} {a : Result Answer Refusal} {w : rules.Broker} → Step m b x a w → (d : ℕ) → Spares x a d → w.clients d ≡ b.clients d
 step_others (Calls.refused q) d o = refl
 step_others (Calls.started s) d o = refl
-step_others (Calls.admitted s) d o = put_off _ _ _ d o
+step_others (Calls.delivered s) d o = refl
+step_others (Calls.clocked s) d o = absurd o
 step_others (Calls.granted_free s g h) d o = put_off _ _ _ d o.0
 step_others (Calls.granted_from s g h k l n) d o = put_off _ _ _ d o.0 ∙ put_off _ _ _ d o.1
-step_others (Calls.delivered s) d o = refl
-step_others (Calls.handed_back s g h) d o = put_off _ _ _ d o
-step_others (Calls.left s g) d o = put_off _ _ _ d o
-step_others (Calls.estimated s g) d o = put_off _ _ _ d o
-step_others (Calls.clocked s) d o = absurd o
+step_others s d o = put_off _ _ _ d o
 
 -- whom a call spares it leaves listed
 pub spared : {P : Type 0} {g : Ghosts P} (b : Broker P g) {x : Call} {a : Result Answer Refusal} {w : rules.Broker} → Step (meaning b) (view b) x a w → (d : ℕ) → Spares x a d → Lists (meaning b) w d (listed b.payers d)

@@ -1,9 +1,7 @@
-use Rattle.std.proofs.Common.{◌≡◌, ℕ, sym, refl, subst, arith}
-use Rattle.laws.specs.Broker.{Broker}
-use Rattle.laws.specs.Calls.{ends}
+use Rattle.std.proofs.Common.{refl, arith}
 use Rattle.pool.proofs.Clocks.{few_end}
 use Rattle.broker.specs.View.{view}
-use Rattle.broker.proofs.Clock.{dropping_none, dropping_one, dropping_falls, dropped_listed}
+use Rattle.broker.proofs.Clock.{all_dropped, dropping_one, dropping_falls, dropped_listed}
 use Rattle.broker.proofs.broker.Broker.end_estimates.Goals as goal
 
 pub invariant_of-self : goal.invariant_of-self
@@ -19,6 +17,4 @@ pub loop-client-preserved : goal.loop-client-preserved
 loop-client-preserved g c = dropping_one c.loop-client.invariant c.in-Some.ensures refl
 
 pub returns : goal.returns
-returns g c =
-    let (same, none) = c.in_default.ensures in
-    (dropping_none c.loop-client.invariant refl same, subst (λ (v : Broker). (d : ℕ) → ends c.args.tick (v.clients d) ≡ 0) (sym same) none)
+returns g c = all_dropped c.loop-client.invariant refl c.in_default.ensures
