@@ -1,6 +1,5 @@
 -- A new run prints all that is printed of its input, and nothing else.
 use Rattle.std.proofs.Common.{◌≡◌, ℕ, List}
-use Rattle.rules.specs.Offers.{Meaning}
 use Rattle.events.specs.Input.{Cut}
 use Rattle.events.proofs.Cutting.{one_cut}
 use Rattle.laws.specs.Broker as rules
@@ -15,15 +14,7 @@ use Rattle.session.proofs.Once.{prints_once}
 
 module _ {P : Type 0} {g : Ghosts P} (r : Run P g) (under : P) (input : List ℕ) (guarantees : Guaranteed (meaning r.session.broker)) (price : r.session.broker.price ≡ under)
     (new : view r.session.broker ≡ rules.new_broker) (whole : r.lines.rest.now ≡ input) (first : r.number ≡ 0) (reading : r.stage ≡ Reading) where
-  abbrev m : Meaning
-  m = meaning r.session.broker
-
-  abbrev b : rules.Broker
-  b = view r.session.broker
-
-  abbrev rest : List ℕ
-  rest = r.lines.rest.now
-
+  -- all that a new run gives is printed of its input, cut into some lines
   printed : (vs : List Printed) → Gives r vs → (lines : List (List ℕ)) × Cut input lines × PrintsAll (g.meaning under) rules.new_broker 1 lines vs
   printed vs gives = rw (reading, whole, meaning, price, new, first) at (gives_all r vs gives)
 

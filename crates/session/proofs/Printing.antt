@@ -44,6 +44,7 @@ sofar_all {s = s} sofar n =
       all = sofar.given;
       gives = rw append-nil at (sofar.gives [] (none n));
       prints = sofar.prints;
+      -- a run that gave nothing gives nothing again
       nothing_more = none {after = s} (record { prints = (n.prints.1, n.prints.1); continues = stays refl; falls = tt });
       continues = continues_on sofar.continues n.continues;
     }
