@@ -1,9 +1,9 @@
 -- The rank is one line under every lawful price.
-use Rattle.std.proofs.Common.{◌≡◌, ℕ, ◌*◌, ◌<◌, ◌≤◌, false, ◌⊎◌, mul-le-mul_right, arith, ltb-false, le-ltb}
+use Rattle.std.proofs.Common.{◌≡◌, ℕ, ◌*◌, ◌<◌, ◌≤◌, false, ◌⊎◌, mul-le-mul_right, nat_lt, arith, ltb-false, le-ltb}
 use native.Mathlib.Nat.{le_of_mul-le-mul_left}
 use Rattle.std.proofs.lemmas.Bool.Decides.{nat_tests}
 use Rattle.rules.specs.Offers.{Meaning, Lawful}
-use Rattle.rules.specs.Rank.{Bid, Terms, ranks, above, Above, by_minimum, by_class, by_fraction, by_client, by_count, told, offer_of, bid_at, tests}
+use Rattle.rules.specs.Rank.{Bid, Terms, ranks, above, Above, by_minimum, by_fraction, told, offer_of, bid_at, tests}
 use Rattle.rules.specs.Laws.{Apart, Made, RankIsOneLine}
 use Rattle.rules.proofs.Separate.{Weak, Each, ranks_asym, ranks_past}
 
@@ -23,28 +23,22 @@ module _ (m : Meaning) where
   weak_minimum : Weak (Fair m) by_minimum
   weak_minimum = record { asym = λ a b pa pb h. grind (arith, nat_tests); past = λ a b c pa pb pc h k. grind (arith, nat_tests) }
 
-  weak_class : Weak (Fair m) (by_class m)
-  weak_class = record { asym = λ a b pa pb h. grind (arith, nat_tests); past = λ a b c pa pb pc h k. grind (arith, nat_tests) }
-
-  weak_client : Weak (Fair m) by_client
-  weak_client = record { asym = λ a b pa pb h. grind (arith, nat_tests); past = λ a b c pa pb pc h k. grind (arith, nat_tests) }
-
-  weak_count : Weak (Fair m) by_count
-  weak_count = record { asym = λ a b pa pb h. grind (arith, nat_tests); past = λ a b c pa pb pc h k. grind (arith, nat_tests) }
+  -- a test by a number, of which the smaller one or the larger one wins
+  weak_number : (f : Bid → ℕ) → Weak (Fair m) (λ a b. nat_lt (f a) (f b)) × Weak (Fair m) (λ a b. nat_lt (f b) (f a))
+  weak_number f = (
+    record { asym = λ a b pa pb h. grind (arith, nat_tests); past = λ a b c pa pb pc h k. grind (arith, nat_tests) },
+    record { asym = λ a b pa pb h. grind (arith, nat_tests); past = λ a b c pa pb pc h k. grind (arith, nat_tests) },
+  )
 
   weak_fraction : Weak (Fair m) (by_fraction m)
   weak_fraction =
       record {
         asym = λ a b pa pb h. grind (arith, nat_tests);
-        past = λ a b c pa pb pc h k.
-            let x = ltb-false ((told m b).top * (told m a).bottom) ((told m a).top * (told m b).bottom) h in
-            let y = ltb-false ((told m c).top * (told m b).bottom) ((told m b).top * (told m c).bottom) k in
-            le-ltb ((told m c).top * (told m a).bottom) ((told m a).top * (told m c).bottom)
-            (cross (told m a).top (told m a).bottom (told m b).top (told m b).bottom (told m c).top (told m c).bottom pb x y);
+        past = λ a b c pa pb pc h k. le-ltb _ _ (cross _ _ _ _ _ _ pb (ltb-false _ _ h) (ltb-false _ _ k));
       }
 
   weak_all : Each (Fair m) (tests m)
-  weak_all = (weak_minimum, (weak_class, (weak_fraction, (weak_client, (weak_count, tt)))))
+  weak_all = (weak_minimum, ((weak_number (λ b. (told m b).class)).1, (weak_fraction, ((weak_number (λ b. b.client)).0, ((weak_number (λ b. b.count)).0, tt)))))
 
   -- who ranks above another does not rank below it
   pub asym : (a b : Bid) → Fair m a → Fair m b → Above m a b → above m b a ≡ false
@@ -70,7 +64,7 @@ module _ (m : Meaning) where
 pub rank_is_one_line : RankIsOneLine
 rank_is_one_line m l =
     record {
-      one_way = λ a b v w h k. let n = asym m a b (fair m l a v) (fair m l b w) h in let z : ◌≡◌ {A = ℕ} 0 1 = cc in omega arith;
+      one_way = λ a b v w h k. let n = asym m a b (fair m l a v) (fair m l b w) h in cc;
       through = λ a b c u v w h k.
           let n = asym m a b (fair m l a u) (fair m l b v) h in
           let p = past m b a c (fair m l b v) (fair m l a u) (fair m l c w) n in
