@@ -9,6 +9,7 @@ use super::updates::{change, insert, remove};
 use super::{Order, Record};
 
 /// An owner whose key no key in the heap precedes, with that key, or none where nobody is in.
+#[tactic(auto, using(crate::proofs::Parts::first))]
 pub fn root<K: Order>(records: &[Record<K>], count: usize) -> Option<(usize, &K)>
     requires { Heap K.Order.leads records.now count }
     ensures { MatchOption result ((o : ℕ) → keys records.now count o ≡ None) (λ p. (p.0 < length records.now) × Least K.Order.leads (keys records.now count) p.0 p.1.now) }
@@ -18,6 +19,7 @@ pub fn root<K: Order>(records: &[Record<K>], count: usize) -> Option<(usize, &K)
 }
 
 /// The key of an owner, if it is in.
+#[tactic(auto, using(crate::proofs::Members::reads), unfolding(crate::specs::Heaps::keys, crate::specs::Heaps::is_in))]
 pub fn key<K: Order>(records: &[Record<K>], count: usize, owner: usize) -> Option<&K>
     requires { Heap K.Order.leads records.now count }
     ensures { option_map (λ x. x.now) result ≡ keys records.now count owner }

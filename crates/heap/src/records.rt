@@ -19,6 +19,7 @@ pub struct Record<K> {
 }
 
 /// The owner at place i.
+#[tactic(auto, using(crate::proofs::Writes::owner_read))]
 pub(crate) fn owner_at<K>(records: &[Record<K>], i: usize) -> usize
     requires { i < length records.now }
     ensures { result ≡ owner_at records.now i }
@@ -27,6 +28,7 @@ pub(crate) fn owner_at<K>(records: &[Record<K>], i: usize) -> usize
 }
 
 /// The place that is noted for an owner.
+#[tactic(auto, using(crate::proofs::Writes::place_read))]
 pub(crate) fn place_of<K>(records: &[Record<K>], owner: usize) -> usize
     requires { owner < length records.now }
     ensures { result ≡ place_of records.now owner }
@@ -35,6 +37,7 @@ pub(crate) fn place_of<K>(records: &[Record<K>], owner: usize) -> usize
 }
 
 /// The key at place i.
+#[tactic(auto, using(crate::proofs::Writes::key_read))]
 pub(crate) fn key_at<K>(records: &[Record<K>], count: usize, i: usize) -> &K
     requires { Placed records.now count × (i < count) }
     ensures { key_at records.now i ≡ Some result.now }

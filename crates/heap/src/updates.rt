@@ -17,6 +17,7 @@ pub(crate) fn insert<K: Order + Drop>(records: &mut [Record<K>], count: usize, o
 }
 
 /// Gives an owner that is in another key.
+#[tactic(auto, using(crate::proofs::Members::reads))]
 pub(crate) fn change<K: Order + Drop>(records: &mut [Record<K>], count: usize, owner: usize, key: K)
     requires { Heap K.Order.leads records.old count × (is_some (keys records.old count owner) ≡ true) }
     ensures { Changed K.Order.leads records.old count records.new count owner (Some key) }
@@ -27,6 +28,7 @@ pub(crate) fn change<K: Order + Drop>(records: &mut [Record<K>], count: usize, o
 }
 
 /// Takes out an owner that is in: the last place is given up, and who stood there fills the gap.
+#[tactic(auto, using(crate::proofs::Members::reads))]
 pub(crate) fn remove<K: Order>(records: &mut [Record<K>], count: usize, owner: usize)
     requires { Heap K.Order.leads records.old count × (is_some (keys records.old count owner) ≡ true) }
     ensures { Changed K.Order.leads records.old count records.new (count - 1) owner None }

@@ -2,4 +2,4 @@ use Rattle.heap.proofs.Writes.{rekeyed}
 use Rattle.heap.proofs.records.rekey.Goals as goal
 
 pub returns : goal.returns
-returns g c = rekeyed c.args.records.now c.args.owner c.index-records-owner.result c.args.key c.requires
+returns g c = rekeyed _ _ c.index-records-owner.result _ c.requires

@@ -2,5 +2,4 @@ use Rattle.heap.proofs.Writes.{seated}
 use Rattle.heap.proofs.records.seat.Goals as goal
 
 pub returns : goal.returns
-returns g c =
-    seated c.args.records.now c.args.i c.args.owner c.index-records-i.result c.index-records-owner.result c.requires.0 c.requires.1
+returns g c = seated _ _ _ c.index-records-i.result c.index-records-owner.result c.requires.0 c.requires.1

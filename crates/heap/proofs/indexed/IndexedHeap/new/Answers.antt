@@ -1,5 +1,0 @@
-use Rattle.heap.proofs.Members.{empty_keys}
-use Rattle.heap.proofs.indexed.IndexedHeap.new.Goals as goal
-
-pub returns : goal.returns
-returns g c = empty_keys _
