@@ -18,6 +18,7 @@ pub struct Tally {
 impl Line for Tally {
     ghost spelling = { tallied };
 
+    #[tactic(auto, using(text::proofs::Cuts::joined))]
     fn add_to(&self, text: &mut Text) {
         text.bytes(b"lines ");
         text.number(self.lines);

@@ -3,6 +3,4 @@ pub mod Places
 pub mod Words
 pub mod Verdicts
 pub mod Window
-pub mod Spelling
 pub mod Cutting
-pub mod Telling

@@ -85,6 +85,7 @@ pub fn read(line: &[u8]) -> Result<Event, Refusal>
 }
 
 /// Puts a letter and some numbers, each after one space, behind a text.
+#[tactic(auto, using(text::proofs::Cuts::joined))]
 fn spell(text: &mut Text, letter: u8, numbers: &[u32])
     ensures text { spelt text.new ≡ cut (spelt text.old ++ letter ∷ flat_map spaced numbers.now) }
     ensures short { length numbers.now ≤ 11 → length (flat_map spaced numbers.now) ≤ 127 }
@@ -128,6 +129,7 @@ impl Event {
     /// Writes the event's line to the front of a lent buffer and answers its length. A buffer too short for it is
     /// refused, and stays as it was. What is written reads as the same event again.
     // Kept: it hides `Line::write` for its clause `again`, which the lines of faults and answers could not promise.
+    #[tactic(auto, using(text::proofs::Cuts::joined))]
     pub fn write(&self, out: &mut [u8]) -> Result<usize, Refusal>
         ensures placed { Placed (written self.now) out.old result out.new }
         ensures again { (v : Result Event Refusal) → Verdict (written self.now) v → v ≡ Ok self.now }

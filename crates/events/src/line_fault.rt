@@ -17,6 +17,7 @@ pub struct LineFault {
 impl Line for LineFault {
     ghost spelling = { told };
 
+    #[tactic(auto, using(text::proofs::Cuts::joined))]
     fn add_to(&self, text: &mut Text) {
         text.bytes(b"line ");
         text.number(self.line);

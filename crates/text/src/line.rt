@@ -20,6 +20,7 @@ pub trait Line {
         ensures text { spelt text.new ≡ cut (spelt text.old ++ spelling self.now) };
 
     /// The line, without a newline.
+    #[tactic(auto, using(crate::proofs::Cuts::joined))]
     final fn line(&self) -> Text
         ensures { spelt result ≡ spelling self.now }
     {
@@ -38,6 +39,7 @@ pub trait Line {
     }
 
     /// Prints the line and a newline.
+    #[tactic(auto, using(crate::proofs::Cuts::joined))]
     final fn print<W: Write>(&self, out: &mut W) -> io::Result<()>
         ensures { OnOk result (Appends (W.contents out.old) (W.contents out.new) (spelling self.now ++ 10 ∷ [])) }
     {

@@ -1,21 +1,15 @@
-use Rattle.std.proofs.Common.{codes, decimal, ap, ◌∙◌}
-use Rattle.text.specs.Texts.{cut}
-use Rattle.text.proofs.Cuts.{grown}
-use Rattle.events.proofs.Telling.{text_pieces, refused_pieces}
+use Rattle.std.proofs.Common.{◌≡◌, [], append_assoc, refl, arith}
+use Rattle.rules.specs.Numbers.{values}
+use Rattle.rules.specs.declared.refusal.Fault.{Fault}
+use Rattle.rules.specs.declared.refusal.Refusal.{Refusal}
+use Rattle.rules.specs.declared.refusal.Refusal.TheVariants.{Malformed}
+use Rattle.text.proofs.Cuts.{cut_cut}
 use Rattle.events.proofs.line_fault.LineFaultLine.add_to.Goals as goal
 
-pub returns-in-Malformed-clause-text : goal.returns-in-Malformed-clause-text
-returns-in-Malformed-clause-text c =
-    let line = grown _ (decimal c.args.self.now.line) c.bytes.ensures c.number.ensures.text in
-    let text = grown _ (codes " text ") line c.bytes-in-Malformed.ensures in
-    let kind = grown _ (decimal c.number-in-Malformed.result) text c.number-in-Malformed-2.ensures.text in
-    let at = grown _ (codes " at ") kind c.bytes-in-Malformed-2.ensures in
-    let column = grown _ (decimal c.in-Malformed.fault.column) at c.number-in-Malformed-3.ensures.text in
-    column ∙ ap cut (text_pieces _ c.args.self.now c.in-Malformed.fault c.number-in-Malformed.result c.in-Malformed.is c.number-in-Malformed.ensures)
+-- only a malformed line has values
+no_values : (r : Refusal) → ((f : Fault) → r ≡ Malformed f → ⊥) → values r ≡ []
+no_values (Malformed f) not = absurd (not f refl)
+no_values r not = refl
 
 pub returns-in_default-clause-text : goal.returns-in_default-clause-text
-returns-in_default-clause-text c =
-    let line = grown _ (decimal c.args.self.now.line) c.bytes.ensures c.number.ensures.text in
-    let refused = grown _ (codes " refused ") line c.bytes-in_default.ensures in
-    let why = grown _ (decimal c.number-in_default.result) refused c.number-in_default-2.ensures.text in
-    why ∙ ap cut (refused_pieces _ c.args.self.now c.number-in_default.result c.in_default.not-Malformed c.number-in_default.ensures)
+returns-in_default-clause-text c = rw (no_values _ c.in_default.not-Malformed) (grind (arith, cut_cut, append_assoc))

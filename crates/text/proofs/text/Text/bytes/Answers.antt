@@ -1,4 +1,4 @@
-use Rattle.std.proofs.Common.{◌≡◌, ℕ, Ok, Err, Result, ◌∙◌, arith, rules}
+use Rattle.std.proofs.Common.{Ok, Err, Result, ◌∙◌, arith, rules}
 use Rattle.std.specs.Result.{IsOk, OnOk}
 use Rattle.text.proofs.Cuts.{kept_front}
 use Rattle.text.proofs.text.Text.bytes.Goals as goal
@@ -6,7 +6,7 @@ use Rattle.text.proofs.text.Text.bytes.Goals as goal
 -- what is known of a call that succeeds
 succeeded : {T E P : Type 0} (r : Result T E) → IsOk r → OnOk r P → P
 succeeded (Ok x) is known = known
-succeeded (Err e) is known = let z : ◌≡◌ {A = ℕ} 0 1 = cc in absurd (omega arith)
+succeeded (Err e) is known = cc
 
 pub returns : goal.returns
 returns c =
