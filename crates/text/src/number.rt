@@ -3,6 +3,7 @@ ghost use Rattle.std.specs.Prelude.{◌≡◌, ℕ, ◌^◌, ◌<◌, decimal, M
 
 /// The number that some bytes write in plain decimal: digits alone, with no zero in front of others, and of at most
 /// 32 bits.
+#[tactic(auto, using(crate::proofs::Numbers::plain))]
 pub fn plain_number(bytes: &[u8]) -> Option<u32>
     ensures { MatchOption result ((n : ℕ) → n < 2 ^ 32 → bytes.now ≢ decimal n) (λ n. (n < 2 ^ 32) × (bytes.now ≡ decimal n)) }
 {
