@@ -1,7 +1,7 @@
 -- Lines, cut one after the other.
-use Rattle.std.proofs.Common.{◌≡◌, ◌≢◌, ℕ, zero, suc, ◌+◌, ◌-◌, ◌<◌, ◌≤◌, min, List, [], ◌∷◌, ◌++◌, length, get_or, take, drop, sym, refl, ap, ◌∙◌, subst, ⊎_elim, arith}
-use Rattle.std.proofs.lemmas.List.{length-append, take_all, take_rest, take-append-drop, drop_more, drop_all}
-use Rattle.std.proofs.str.Laws.{order}
+use Rattle.std.proofs.Common.{◌≡◌, ◌≢◌, ℕ, zero, suc, ◌+◌, ◌-◌, ◌<◌, min, List, [], ◌∷◌, ◌++◌, length, get_or, take, drop, sym, refl, ap, ◌∙◌, arith, add-one}
+use Rattle.std.proofs.Math.Seq.{split_at}
+use Rattle.std.proofs.lemmas.List.{length-append, take_rest, take_min, drop_all}
 use Rattle.events.specs.Input.{NoNewline, Cut, Cuts, none, ended, last}
 
 -- none of the first n bytes is a newline
@@ -14,8 +14,7 @@ no_newline (suc n) (b ∷ text) h = (h 0 (omega arith) (omega arith), no_newline
 pub ended_line : (text : List ℕ) (n : ℕ) → n < length text → NoNewline (take n text) → get_or text n 0 ≡ 10 →
     Cuts (take (length text - (n + 1)) (drop (n + 1) text)) text (take n text ∷ [])
 ended_line text n h plain newline =
-    let split : text ≡ take n text ++ 10 ∷ drop (n + 1) text =
-    sym (take-append-drop n text) ∙ ap (λ xs. take n text ++ xs) (drop_more text n 0 h ∙ ap (λ x. x ∷ drop (n + 1) text) newline) in
+    let split : text ≡ take n text ++ 10 ∷ drop (n + 1) text = rw add-one (rw newline at (split_at text n 0 h)) in
     ended split plain (none (sym (take_rest text (n + 1))))
 
 -- the text after the last newline
@@ -26,10 +25,7 @@ last_line text some plain =
 -- of a line its first 80 bytes
 pub line_head : (line : List ℕ) (k : ℕ) → k ≡ min (length line) 80 → take k line ≡ take 80 line
 line_head line k e =
-    ⊎_elim
-    (λ (h : length line < 80). take_all k line (omega arith) ∙ sym (take_all 80 line (omega arith)))
-    (λ (h : 80 ≤ length line). let same : k ≡ 80 = omega arith in ap (λ m. take m line) same)
-    (order (length line) 80)
+    let least : k ≡ min 80 (length line) = omega arith in rw (least, take_min)
 
 -- lines after lines
 nothing_behind : (left : List ℕ) (lines : List (List ℕ)) → Cuts left [] lines → (lines ≡ []) × (left ≡ [])
@@ -38,39 +34,36 @@ nothing_behind left lines (ended {line} {behind} {lines = more} e plain cuts) = 
 nothing_behind left lines (last some plain e) = absurd (some refl)
 
 pub cuts_on : (mid left : List ℕ) (more : List (List ℕ)) (input : List ℕ) (lines : List (List ℕ)) → Cuts mid input lines → Cuts left mid more → Cuts left input (lines ++ more)
-cuts_on mid left more input lines (none e) cuts = subst (λ xs. Cuts left xs more) (sym e) cuts
+cuts_on mid left more input lines (none e) cuts = rw e cuts
 cuts_on mid left more input lines (ended {line} {behind} {lines = rest} e plain first) cuts = ended e plain (cuts_on mid left more behind rest first cuts)
 cuts_on mid left more input lines (last some plain e) cuts =
-    let end = nothing_behind left more (subst (λ xs. Cuts left xs more) e cuts) in
-    subst (λ xs. Cuts left input (input ∷ xs)) (sym end.0) (last some plain end.1)
+    let end = nothing_behind left more (rw e at cuts) in rw end.0 (last some plain end.1)
 
 -- there is one way to cut an input
 newline_within : (text line behind : List ℕ) → text ≡ line ++ 10 ∷ behind → NoNewline text → ⊥
 newline_within [] line behind e plain = omega (arith, ap length e, length-append line (10 ∷ behind))
-newline_within (b ∷ text) [] behind e plain = let same : b ≡ 10 = cc in plain.0 same
-newline_within (b ∷ text) (x ∷ line) behind e plain = let rest : text ≡ line ++ 10 ∷ behind = cc in newline_within text line behind rest plain.1
+newline_within (b ∷ text) [] behind e plain = plain.0 cc
+newline_within (b ∷ text) (x ∷ line) behind e plain = newline_within text line behind (cc) plain.1
 
 one_line : (line other behind rest : List ℕ) → NoNewline line → NoNewline other → line ++ 10 ∷ behind ≡ other ++ 10 ∷ rest → (line ≡ other) × (behind ≡ rest)
-one_line [] [] behind rest p q e = let same : behind ≡ rest = cc in (refl, same)
-one_line [] (y ∷ other) behind rest p q e = let same : y ≡ 10 = cc in absurd (q.0 same)
-one_line (x ∷ line) [] behind rest p q e = let same : x ≡ 10 = cc in absurd (p.0 same)
+one_line [] [] behind rest p q e = (refl, cc)
+one_line [] (y ∷ other) behind rest p q e = absurd (q.0 cc)
+one_line (x ∷ line) [] behind rest p q e = absurd (p.0 cc)
 one_line (x ∷ line) (y ∷ other) behind rest p q e =
     let tails : line ++ 10 ∷ behind ≡ other ++ 10 ∷ rest = cc in
-    let heads : x ≡ y = cc in
-    let r = one_line line other behind rest p.1 q.1 tails in
-    let lines_same = r.0 in
-    let whole : x ∷ line ≡ y ∷ other = cc in
-    (whole, r.1)
+    let same = one_line line other behind rest p.1 q.1 tails in
+    let lines_same = same.0 in
+    (cc, same.1)
 
 pub one_cut : (input : List ℕ) (lines others : List (List ℕ)) → Cut input lines → Cut input others → lines ≡ others
-one_cut input lines others (none e) cuts = sym (nothing_behind [] others (subst (λ xs. Cuts [] xs others) e cuts)).0
-one_cut input lines others (ended {line} {behind} {lines = more} e plain first) (none f) = absurd (omega (arith, ap length (sym e ∙ f), length-append line (10 ∷ behind)))
+one_cut input lines others (none e) cuts = sym (nothing_behind [] others (rw e at cuts)).0
+one_cut input lines others (last some plain e) (none f) = absurd (some f)
+one_cut input lines others cuts (none e) = (nothing_behind [] lines (rw e at cuts)).0
 one_cut input lines others (ended {line} {behind} {lines = more} e plain first) (ended {line = other} {behind = rest} {lines = ms} f pl second) =
     let same = one_line line other behind rest plain pl (sym e ∙ f) in
-    let rest_same = one_cut behind more ms first (subst (λ xs. Cuts [] xs ms) (sym same.1) second) in
+    let rest_same = one_cut behind more ms first (rw (← same.1) at second) in
     let lines_same = same.0 in
     cc
-one_cut input lines others (ended {line} {behind} {lines = more} e plain first) (last some pl f) = absurd (newline_within input line behind e pl)
-one_cut input lines others (last some plain e) (none f) = absurd (some f)
-one_cut input lines others (last some plain e) (ended {line} {behind} {lines = more} f pl second) = absurd (newline_within input line behind f plain)
+one_cut input lines others (ended {line} {behind} e plain first) (last some pl f) = absurd (newline_within input line behind e pl)
+one_cut input lines others (last some plain e) (ended {line} {behind} f pl second) = absurd (newline_within input line behind f plain)
 one_cut input lines others (last some plain e) (last some' pl f) = refl

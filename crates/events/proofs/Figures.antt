@@ -1,31 +1,22 @@
 -- Digits, and the numbers that they write in decimal.
-use Rattle.std.proofs.Common.{◌≡◌, ℕ, zero, suc, ◌+◌, ◌^◌, ◌<◌, ◌≤◌, true, false, List, [], ◌∷◌, ◌++◌, length, get_or, take, Some, None, decimal, Option, sym, refl, subst, arith}
+use Rattle.std.proofs.Common.{◌≡◌, ℕ, zero, suc, ◌^◌, ◌<◌, ◌≤◌, true, false, List, [], ◌∷◌, ◌++◌, length, take, Some, None, decimal, Option, sym, refl, subst, arith, add-one}
 use Rattle.events.specs.Grammar.{NoDigit}
 use Rattle.events.specs.Reading.{Run}
-use Rattle.std.proofs.lemmas.Int.Digits.{digits_more}
 use Rattle.std.proofs.lemmas.List.{drop_more, drop_all}
 use Rattle.std.specs.List.{AllWithin, HoldsAt}
 use Rattle.std.specs.Option.{MatchOption, unwrap_or}
 use Rattle.std.proofs.lemmas.Bool.Decides.{nat_tests}
-use Rattle.std.specs.Str.Parse.{AllDigits, digits_value}
+use Rattle.std.specs.Str.Parse.{AllDigits}
 use Rattle.std.specs.Char.{is_ascii_digit, digit_value as digitValue}
 use Rattle.std.proofs.lemmas.Fmt.{digits_decimal}
-use Rattle.std.proofs.lemmas.Str.Parse.{IsNumeralModel, numerals_by_value, tells_digits}
-
--- the library's words for digits and their value
-own : IsNumeralModel (AllDigits 10) (digits_value 10)
-own = numerals_by_value (AllDigits 10) tells_digits
-
-pub digit_counts : (b : ℕ) → is_ascii_digit b ≡ true → digitValue b < 10
-digit_counts b h = grind (arith, nat_tests)
+use Rattle.text.proofs.Numbers.{own, digits_on}
 
 -- where no byte before a place is other than a digit, digits stand there
 digits_to : (bs : List ℕ) (i : ℕ) → i ≤ length bs → AllWithin (λ b. is_ascii_digit b ≡ true) bs 0 i → AllDigits 10 (take i bs)
 digits_to bs zero h all = tt
 digits_to bs (suc i) h all =
-    let next : i + 1 ≡ suc i = omega arith in
     let before = digits_to bs i (omega arith) (λ k d low high. all k d low (omega arith)) in
-    subst (λ n. AllDigits 10 (take n bs)) next (digits_more 10 bs i (omega arith) before (digit_counts (get_or bs i 0) (all i 0 (omega arith) (omega arith))))
+    rw add-one at (digits_on bs i (omega arith) before (all i 0 (omega arith) (omega arith)))
 
 -- the digits before the first byte that is none, or before the end
 pub run_to : (bs : List ℕ) (r : Option ℕ) →
@@ -34,12 +25,12 @@ pub run_to : (bs : List ℕ) (r : Option ℕ) →
 run_to bs None all = record {
   within = omega arith;
   all = digits_to bs (length bs) (omega arith) all;
-  ended = subst NoDigit (sym (drop_all (length bs) bs (omega arith))) tt;
+  ended = rw (drop_all (length bs) bs (omega arith)) tt;
 }
 run_to bs (Some i) first = record {
   within = omega (arith, first.0);
   all = digits_to bs i (omega (arith, first.0)) first.2;
-  ended = subst NoDigit (sym (drop_more bs i 0 first.0)) (first.1 0);
+  ended = rw (drop_more bs i 0 first.0) (first.1 0);
 }
 
 pub decimal_digits : (n : ℕ) → n < 2 ^ 32 → AllDigits 10 (decimal n)
@@ -49,18 +40,12 @@ digit_or_not : (b : ℕ) → digitValue b < 10 → is_ascii_digit b ≡ false �
 digit_or_not b is not = grind (arith, nat_tests)
 
 -- all the digits at the front of a text are one list, and what follows them is one
-pub record SameRun (ds es more rest : List ℕ) : Type 0 where
-  pub digits : ds ≡ es
-  pub behind : more ≡ rest
-
-pub one_run : (ds es more rest : List ℕ) → AllDigits 10 ds → AllDigits 10 es → NoDigit more → NoDigit rest → ds ++ more ≡ es ++ rest → SameRun ds es more rest
-one_run [] [] more rest p q s t e = record { digits = refl; behind = e }
-one_run [] (x ∷ es) [] rest p q s t e = let z : ◌≡◌ {A = ℕ} 0 1 = cc in absurd (omega arith)
-one_run [] (x ∷ es) (m ∷ more) rest p q s t e = absurd (digit_or_not x q.0 (let same : x ≡ m = cc in rw same s))
-one_run (d ∷ ds) [] more [] p q s t e = let z : ◌≡◌ {A = ℕ} 0 1 = cc in absurd (omega arith)
-one_run (d ∷ ds) [] more (m ∷ rest) p q s t e = absurd (digit_or_not d p.0 (let same : d ≡ m = cc in rw same t))
+pub one_run : (ds es more rest : List ℕ) → AllDigits 10 ds → AllDigits 10 es → NoDigit more → NoDigit rest → ds ++ more ≡ es ++ rest → (ds ≡ es) × (more ≡ rest)
+one_run [] [] more rest p q s t e = (refl, e)
+one_run [] (x ∷ es) more rest p q s t e = absurd (digit_or_not x q.0 (subst NoDigit e s))
+one_run (d ∷ ds) [] more rest p q s t e = absurd (digit_or_not d p.0 (subst NoDigit (sym e) t))
 one_run (d ∷ ds) (x ∷ es) more rest p q s t e =
-    let same : d ≡ x = cc in
-    let rest_same : ds ++ more ≡ es ++ rest = cc in
-    let r = one_run ds es more rest p.1 q.1 s t rest_same in
-    record { digits = cc; behind = r.behind }
+    let tails : ds ++ more ≡ es ++ rest = cc in
+    let same = one_run ds es more rest p.1 q.1 s t tails in
+    let digits_same = same.0 in
+    (cc, same.1)

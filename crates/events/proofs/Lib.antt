@@ -1,5 +1,4 @@
 pub mod Figures
-pub mod Places
 pub mod Words
 pub mod Verdicts
 pub mod Window

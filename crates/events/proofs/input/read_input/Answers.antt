@@ -1,4 +1,4 @@
-use Rattle.std.proofs.Common.{◌≡◌, ℕ, List, [], ◌++◌, take, None, Some, Option, ap, ◌∙◌, subst, arith}
+use Rattle.std.proofs.Common.{◌≡◌, ℕ, List, [], ◌++◌, take, None, Some, Option, ap, ◌∙◌, arith}
 use Rattle.std.proofs.lemmas.List.{take-take}
 use Rattle.std.specs.Option.{IfSome, option_map}
 use Rattle.events.proofs.input.read_input.Goals as goal
@@ -11,6 +11,4 @@ first_bytes limit (Some bs) old mid new empty cut read =
 
 pub returns-clause-bytes : goal.returns-clause-bytes
 returns-clause-bytes g c =
-    subst (λ r. IfSome (g.R.Read.remaining r) (λ bs. c.truncate.new.self.items ≡ take 16777216 bs)) c.take.ensures.inner
-    (first_bytes 16777216 _ _ _ _ c.in_ok-input.ensures.items c.truncate.ensures.items
-    (subst (λ n. IfSome (option_map (take n) (g.R.Read.remaining c.take.result.inner)) (λ xs. c.read_to_end.new.buf.items ≡ c.in_ok-input.input.items ++ xs)) c.take.ensures.limit c.in_ok-read_to_end.ensures.bytes))
+    rw (← c.take.ensures.inner) (first_bytes 16777216 _ _ c.read_to_end.new.buf.items _ c.in_ok-input.ensures.items c.truncate.ensures.items (rw c.take.ensures.limit at c.in_ok-read_to_end.ensures.bytes))
