@@ -1,5 +1,5 @@
 -- What the report knows after some lines.
-use Rattle.std.proofs.Common.{◌≡◌, ℕ, ◌+◌, ◌<◌, ◌≤◌, List, [], ◌∷◌, ◌++◌, length, take, Some, None, Option, Result, sym, refl, ap, ◌∙◌, subst, arith}
+use Rattle.std.proofs.Common.{◌≡◌, ℕ, ◌+◌, ◌<◌, ◌≤◌, List, [], ◌∷◌, ◌++◌, length, take, Some, None, Option, Result, sym, refl, ap, ◌∙◌, arith}
 use Rattle.std.proofs.KnownBytes.{Appends-nil, Appends-trans}
 use Rattle.std.proofs.lemmas.List.{length_push, take-take}
 use Rattle.std.specs.Io.KnownBytes.{Appends}
@@ -49,7 +49,7 @@ one_more input text rest left more before mid after t u r s next less read up wr
 
 pub done : (input : List ℕ) (before mid after : Option (List ℕ)) (t : Tally) (rest left : List ℕ) → Sofar input before t rest mid → NextLine rest None left → Appends mid after (tallied t ++ 10 ∷ []) → Checked input t before after
 done input before mid after t rest left s end writes =
-    let cut = subst (λ xs. Cuts xs input s.seen) end.0 s.cuts in
+    let cut = rw end.0 at s.cuts in
     record {
       lines_of = s.seen;
       faults = s.printed;
