@@ -1,9 +1,12 @@
 -- Stacks by links: how high they are, and what a write to one link leaves of them.
-use Rattle.std.proofs.Common.{◌≡◌, ℕ, zero, suc, ◌+◌, ◌<◌, ◌≤◌, Bool, eqb, List, [], ◌∷◌, length, get_or, set, MatchBool, sym, refl, ap, ◌∙◌, subst, inl, inr, arith}
-use Rattle.std.proofs.lemmas.List.{get_or-set_other, get_or_past, nil_from_length}
-use Rattle.std.proofs.lemmas.Bool.{cases_eq, cases_lt, eq-eqb, ne_eqb, cond-true, cond-false}
+use Rattle.std.proofs.Common.{◌≡◌, ℕ, zero, suc, ◌+◌, ◌<◌, ◌≤◌, List, [], ◌∷◌, length, get_or, set, sym, refl, ap, ◌∙◌, subst, inl, inr, arith}
+use Rattle.std.proofs.lemmas.List.{get_or-set_other, get_or_past}
+use Rattle.std.proofs.lemmas.Bool.{cases_eq, cases_lt}
+use Rattle.std.proofs.lemmas.Bool.Decides.{nat_tests}
 use Rattle.ledger.specs.Stacks.{times}
 use Rattle.ledger.specs.Linked.{down, empty, stack}
+use Rattle.ledger.specs.Links.{stacks}
+use Rattle.ledger.specs.declared.links.Links.{Links}
 use Rattle.ledger.specs.declared.links.Stack.{Stack}
 
 length_down : (below : List ℕ) (f n : ℕ) → length (down below f n) ≡ n
@@ -23,10 +26,10 @@ pub stack_past : (below : List ℕ) (begun : List Stack) (o : ℕ) → length be
 stack_past below begun o h = stack_none below begun o (ap (λ s. s.height) (get_or_past begun o empty h))
 
 pub times_here : (f : ℕ) (xs : List ℕ) → times f (f ∷ xs) ≡ 1 + times f xs
-times_here f xs = ap (λ z. z + times f xs) (cond-true (eqb f f) 1 0 (eq-eqb f f refl))
+times_here f xs = grind (arith, nat_tests)
 
 times_other : (f x : ℕ) (xs : List ℕ) → (f ≡ x → ⊥) → times f (x ∷ xs) ≡ times f xs
-times_other f x xs d = let e = cond-false {A = ℕ} (eqb f x) 1 0 (ne_eqb f x d) in omega arith
+times_other f x xs d = grind (arith, nat_tests)
 
 -- a link that is not passed may change
 pub down_apart : (below : List ℕ) (f v g n : ℕ) → times f (down below g n) ≡ 0 → down (set below f v) g n ≡ down below g n
@@ -34,22 +37,10 @@ down_apart below f v g zero h = refl
 down_apart below f v g (suc n) h =
     let rest : List ℕ = down below (get_or below g 0) n in
     elim (cases_eq f g) [
-      | inl e ↦ absurd (let w : times g (g ∷ rest) ≡ 0 = subst (λ z. times z (g ∷ rest) ≡ 0) e h in let c = times_here g rest in omega arith)
+      | inl e ↦ absurd (omega (arith, times_here g rest, subst (λ z. times z (g ∷ rest) ≡ 0) e h))
       | inr d ↦ ap (λ l. g ∷ l) (ap (λ z. down (set below f v) z n) (get_or-set_other below f g v 0 (λ e. d (sym e))) ∙ down_apart below f v (get_or below g 0) n (sym (times_other f g rest d) ∙ h))
     ]
 
 -- a stack that has a frame is an owner's
-pub high_within : (below : List ℕ) (begun : List Stack) (n o : ℕ) → length begun ≡ n → 0 < length (stack below begun o) → o < n
-high_within below begun n o e h =
-    elim (cases_lt o n) [
-      | inl l ↦ l
-      | inr g ↦ absurd (let z = ap length (stack_past below begun o (let k : length begun ≤ o = omega arith in k)) in omega arith)
-    ]
-
-pub empty_or_high : (below : List ℕ) (begun : List Stack) (n o h : ℕ) → length begun ≡ n → h ≡ length (stack below begun o) → MatchBool (eqb h 0) (stack below begun o ≡ []) ((o < n) × (0 < length (stack below begun o)))
-empty_or_high below begun n o h e k =
-    let P : Bool → Type 0 = λ b. MatchBool b (stack below begun o ≡ []) ((o < n) × (0 < length (stack below begun o))) in
-    elim (cases_eq h 0) [
-      | inl z ↦ subst P (sym (eq-eqb h 0 z)) (nil_from_length (stack below begun o) (sym k ∙ z))
-      | inr d ↦ let l : 0 < length (stack below begun o) = omega arith in subst P (sym (ne_eqb h 0 d)) (high_within below begun n o e l, l)
-    ]
+pub high_within : (v : Links) (o : ℕ) → 0 < length (stacks v o) → o < 257
+high_within v o h = elim (cases_lt o 257) [ inl l ↦ l | inr g ↦ absurd (omega (arith, h, ap length (stack_past v.below v.stacks o (omega (arith, g, v.owners))))) ]

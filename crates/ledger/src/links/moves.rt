@@ -56,6 +56,7 @@ impl Links {
     }
 
     /// Moves the top frame of a stack that has one onto another, and answers it.
+    #[tactic(auto, using(crate::proofs::Moves::frame_linked, crate::proofs::Moves::height_taken))]
     pub(crate) fn shift(&mut self, from: usize, to: usize) -> u16
         requires { (from < 257) × (to < 257) × (from ≢ to) × (0 < length (stacks self.old from)) }
         ensures many { many self.new ≡ many self.old }

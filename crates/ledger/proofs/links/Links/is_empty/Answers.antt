@@ -1,7 +1,10 @@
-use Rattle.ledger.proofs.Downs.{empty_or_high}
+use Rattle.std.proofs.Common.{arith}
+use Rattle.std.proofs.lemmas.List.{nil_from_length}
+use Rattle.std.proofs.lemmas.Bool.Decides.{nat_tests}
+use Rattle.ledger.specs.Links.{stacks}
+use Rattle.ledger.proofs.Downs.{high_within}
 use Rattle.ledger.proofs.links.Links.is_empty.Goals as goal
 
 pub returns : goal.returns
 returns c =
-    let v = c.args.self.now in
-    empty_or_high v.below v.stacks 257 c.args.owner c.height_of.result v.owners c.height_of.ensures
+    grind (arith, nat_tests, nil_from_length (stacks c.args.self.now c.args.owner), high_within c.args.self.now c.args.owner)
