@@ -10,7 +10,7 @@ use Rattle.ledger.specs.Linked.{down, empty, stack, together, Sound}
 use Rattle.ledger.specs.Links.{many}
 use Rattle.ledger.specs.declared.links.Links.{Links}
 use Rattle.ledger.specs.declared.links.Stack.{Stack}
-use Rattle.ledger.proofs.Sums.{summed_same, summed_none, summed_one}
+use Rattle.ledger.proofs.Sums.{summed_none, summed_one}
 use Rattle.ledger.proofs.Downs.{stack_none}
 
 -- frames linked each to the next
@@ -24,23 +24,11 @@ times_counting f a zero = grind (arith, nat_tests)
 times_counting f a (suc n) = let r = times_counting f (a + 1) n in grind (arith, nat_tests)
 
 times_pooled : (f F : ℕ) → times f (range_with_len 1 F) ≡ pooled F f
-times_pooled zero F = times_counting zero 1 F ∙ grind (arith, nat_tests)
-times_pooled (suc f) F = times_counting (suc f) 1 F ∙ grind (arith, nat_tests)
-
-none_pooled : (f : ℕ) → pooled 0 f ≡ 0
-none_pooled zero = refl
-none_pooled (suc f) = grind (arith, nat_tests)
-
-pub once_none : (t : ℕ → List ℕ) (n : ℕ) → ((o : ℕ) → t o ≡ []) → Once t n 0
-once_none t n h f =
-    summed_same (λ o. 0) (λ o. times f (t o)) n (λ o l. ap (times f) (h o)) ∙ (summed_none n ∙ sym (none_pooled f))
+times_pooled f F = times_counting f 1 F ∙ grind (arith, nat_tests)
 
 pub once_filled : (t : ℕ → List ℕ) (n F : ℕ) → 0 < n → Filled t F → Once t n F
 once_filled t n F pos h f =
-    let r = summed_one (λ o. 0) (λ o. times f (t o)) n 0 pos (λ o d. ap (times f) (h.others o d)) in
-    let z = summed_none n in
-    let c = ap (times f) h.free ∙ times_pooled f F in
-    omega arith
+    omega (arith, summed_one (λ o. 0) (λ o. times f (t o)) n 0 pos (λ o d. ap (times f) (h.others o d)), summed_none n, ap (times f) h.free, times_pooled f F)
 
 module _ (v : Links) (below : List ℕ) (F : ℕ) (none : many v ≡ 0) (links : (f : ℕ) → 1 ≤ f → f ≤ F → get_or below f 0 ≡ f + 1) where
   low : (o : ℕ) → (get_or v.stacks o empty).height ≡ 0
@@ -54,7 +42,7 @@ module _ (v : Links) (below : List ℕ) (F : ℕ) (none : many v ≡ 0) (links :
   all_free = set v.stacks 0 (record { top = 1; height = F })
 
   owned : 0 < length v.stacks
-  owned = let l = v.owners in omega arith
+  owned = omega (arith, v.owners)
 
   free : stack below all_free 0 ≡ range_with_len 1 F
   unfolding stack
@@ -64,7 +52,7 @@ module _ (v : Links) (below : List ℕ) (F : ℕ) (none : many v ≡ 0) (links :
   filled = record { free = free; others = λ o d. stack_none below all_free o (ap (λ s. s.height) (get_or-set_other v.stacks 0 o _ empty d) ∙ low o) }
 
   pub many_filled : together all_free ≡ F
-  many_filled = let a = sum_by-set (λ s. s.height) v.stacks 0 (record { top = 1; height = F }) empty owned in let b = low 0 in omega arith
+  many_filled = omega (arith, sum_by-set (λ s. s.height) v.stacks 0 (record { top = 1; height = F }) empty owned, low 0)
 
   pub sound_filled : F ≤ 4096 → Sound below all_free
   sound_filled h =
@@ -73,11 +61,11 @@ module _ (v : Links) (below : List ℕ) (F : ℕ) (none : many v ≡ 0) (links :
         subst (Once (stack below all_free) 257) (sym e) (once_filled (stack below all_free) 257 F (omega arith) filled),
       )
 
--- every place of a new table is empty
-all_empty : (n o : ℕ) → get_or (replicate n empty) o empty ≡ empty
-all_empty zero o = refl
-all_empty (suc n) zero = refl
-all_empty (suc n) (suc o) = all_empty n o
+-- a table of one value has it at each place, and past its end
+pub same_at : {A : Type 0} (a : A) (n i : ℕ) → get_or (replicate n a) i a ≡ a
+same_at a zero i = refl
+same_at a (suc n) zero = refl
+same_at a (suc n) (suc i) = same_at a n i
 
 pub blank_none : (below : List ℕ) (n o : ℕ) → stack below (replicate n empty) o ≡ []
-blank_none below n o = stack_none below (replicate n empty) o (ap (λ s. s.height) (all_empty n o))
+blank_none below n o = stack_none below (replicate n empty) o (ap (λ s. s.height) (same_at empty n o))

@@ -1,30 +1,29 @@
 -- Sums over owners, of which one or two change.
-use Rattle.std.proofs.Common.{◌≡◌, ℕ, zero, suc, ◌+◌, ◌<◌, ◌≤◌, cond, eqb, List, length, get_or, take, sym, refl, ap, ◌∙◌, inl, inr, arith}
+use Rattle.std.proofs.Common.{◌≡◌, ℕ, zero, suc, ◌+◌, ◌<◌, ◌≤◌, cond, eqb, List, length, get_or, take, sym, refl, ap, ◌∙◌, inl, inr, add-one, arith}
 use Rattle.std.specs.List.{sum_by}
 use Rattle.std.proofs.lemmas.List.{take_all}
 use Rattle.std.proofs.lemmas.List.Sums.{sum_by_more}
-use Rattle.std.proofs.lemmas.Bool.{cases_eq, eq-eqb, ne_eqb, cond-true, cond-false}
+use Rattle.std.proofs.lemmas.Bool.{cases_eq}
+use Rattle.std.proofs.lemmas.Bool.Decides.{nat_tests}
 use Rattle.ledger.specs.Stacks.{summed}
 
 pub summed_none : (n : ℕ) → summed (λ o. 0) n ≡ 0
 unfolding summed
 summed_none zero = refl
-summed_none (suc n) = let r = summed_none n in omega arith
+summed_none (suc n) = omega (arith, summed_none n)
 
 pub summed_same : (g h : ℕ → ℕ) (n : ℕ) → ((o : ℕ) → o < n → h o ≡ g o) → summed h n ≡ summed g n
 unfolding summed
 summed_same g h zero e = refl
-summed_same g h (suc n) e =
-    let r = summed_same g h n (λ o l. e o (omega arith)) in
-    let t = e n (omega arith) in omega arith
+summed_same g h (suc n) e = omega (arith, summed_same g h n (λ o l. e o (omega arith)), e n (omega arith))
 
 pub summed_one : (g h : ℕ → ℕ) (n a : ℕ) → a < n → ((o : ℕ) → (o ≡ a → ⊥) → h o ≡ g o) → summed h n + g a ≡ summed g n + h a
 unfolding summed
-summed_one g h zero a l e = absurd (omega arith)
+summed_one g h zero a l e = omega arith
 summed_one g h (suc n) a l e =
     elim (cases_eq n a) [
-      | inl p ↦ let r = summed_same g h n (λ o k. e o (λ q. omega arith)) in let u = ap g p in let v = ap h p in omega arith
-      | inr d ↦ let r = summed_one g h n a (omega arith) e in let t = e n d in omega arith
+      | inl p ↦ omega (arith, summed_same g h n (λ o k. e o (omega arith)), ap g p, ap h p)
+      | inr d ↦ omega (arith, summed_one g h n a (omega arith) e, e n d)
     ]
 
 -- g with another value at a
@@ -33,33 +32,31 @@ put g a v o = cond (eqb o a) v (g o)
 
 put_here : (g : ℕ → ℕ) (a v : ℕ) → put g a v a ≡ v
 unfolding put
-put_here g a v = cond-true (eqb a a) v (g a) (eq-eqb a a refl)
+put_here g a v = grind (arith, nat_tests)
 
 put_other : (g : ℕ → ℕ) (a v o : ℕ) → (o ≡ a → ⊥) → put g a v o ≡ g o
 unfolding put
-put_other g a v o d = cond-false (eqb o a) v (g o) (ne_eqb o a d)
+put_other g a v o d = grind (arith, nat_tests)
 
 pub one_in : (g : ℕ → ℕ) (n a : ℕ) → a < n → g a ≤ summed g n
-one_in g n a l =
-    let r = summed_one g (put g a 0) n a l (put_other g a 0) in
-    let z = put_here g a 0 in omega arith
+one_in g n a l = omega (arith, summed_one g (put g a 0) n a l (put_other g a 0), put_here g a 0)
 
 pub two_in : (g : ℕ → ℕ) (n a b : ℕ) → a < n → b < n → (a ≡ b → ⊥) → g a + g b ≤ summed g n
 two_in g n a b la lb d =
-    let r = summed_one g (put g a 0) n a la (put_other g a 0) in
-    let z = put_here g a 0 in
-    let s = one_in (put g a 0) n b lb in
-    let t = put_other g a 0 b (λ e. d (sym e)) in omega arith
+    omega (arith, summed_one g (put g a 0) n a la (put_other g a 0), put_here g a 0, one_in (put g a 0) n b lb, put_other g a 0 b (λ e. d (sym e)))
 
 -- what one loses, another gains
 pub shifted : (g h : ℕ → ℕ) (n a b v : ℕ) → a < n → b < n → (a ≡ b → ⊥) → g a ≡ v + h a → h b ≡ v + g b → ((o : ℕ) → (o ≡ a → ⊥) → (o ≡ b → ⊥) → h o ≡ g o) → summed h n ≡ summed g n
+unfolding put
 shifted g h n a b v la lb d ea eb e =
     let k : ℕ → ℕ = put g a (h a) in
-    let r : summed k n + g a ≡ summed g n + k a = summed_one g k n a la (put_other g a (h a)) in
-    let ka : k a ≡ h a = put_here g a (h a) in
-    let kb : k b ≡ g b = put_other g a (h a) b (λ p. d (sym p)) in
-    let s : summed h n + k b ≡ summed k n + h b = summed_one k h n b lb (λ o nb. elim (cases_eq o a) [ inl p ↦ ap h p ∙ (sym ka ∙ ap k (sym p)) | inr na ↦ e o na nb ∙ sym (put_other g a (h a) o na) ]) in
-    omega arith
+    omega (
+      arith,
+      summed_one g k n a la (put_other g a (h a)),
+      put_here g a (h a),
+      put_other g a (h a) b (λ p. d (sym p)),
+      summed_one k h n b lb (λ o nb. grind (arith, nat_tests, e o)),
+    )
 
 -- the sum over a list, place by place
 pub summed_list : {X : Type 0} (f : X → ℕ) (xs : List X) (d : X) → summed (λ o. f (get_or xs o d)) (length xs) ≡ sum_by f xs
@@ -68,7 +65,4 @@ summed_list f xs d = front (length xs) (omega arith) ∙ ap (sum_by f) (take_all
   where
     front : (n : ℕ) → n ≤ length xs → summed (λ o. f (get_or xs o d)) n ≡ sum_by f (take n xs)
     front zero h = refl
-    front (suc n) h =
-        let r = front n (omega arith) in
-        let m = sum_by_more f xs n d (omega arith) in
-        let s = ap (λ k. sum_by f (take k xs)) (let z : n + 1 ≡ suc n = omega arith in z) in omega arith
+    front (suc n) h = omega (arith, front n (omega arith), rw add-one at (sum_by_more f xs n d (omega arith)))
