@@ -1,6 +1,6 @@
 -- Clients with fixed terms, whose bids stand in one line: all that divisions and runs need of the rank.
 use Rattle.std.proofs.Common.{◌≡◌, ℕ, ◌+◌, ◌<◌, ◌≤◌, Bool, true, false, ◌≢◌, ◌⊎◌, sym, ap, subst, inl, inr, arith}
-use Rattle.std.proofs.lemmas.Bool.{cases_order, cases_Bool, both_ways}
+use Rattle.std.proofs.lemmas.Bool.{cases_eq, cases_Bool, both_ways}
 use Rattle.laws.specs.ByNumber.{Numbered}
 
 -- a client may come to hold k frames
@@ -25,10 +25,9 @@ module _ (K : Contest) where
   -- more frames never rank above fewer
   pub no_rise : (c j k : ℕ) → 1 ≤ j → j ≤ k → k ≤ K.cap c → K.over c k c j ≡ false
   no_rise c j k p h q =
-      elim (cases_order j k) [
+      elim (cases_eq j k) [
         | inl e ↦ subst (λ (x : ℕ). K.over c x c j ≡ false) e (irr c j (omega arith))
-        | inr (inl lt) ↦ K.asym c j c k (omega arith) (omega arith) (K.fall c j k (omega arith) (omega arith) lt)
-        | inr (inr gt) ↦ absurd (omega arith)
+        | inr ne ↦ K.asym c j c k (omega arith) (omega arith) (K.fall c j k (omega arith) (omega arith) (omega arith))
       ]
 
   -- what one has beyond its minimum ranks above what another below its maximum would get next

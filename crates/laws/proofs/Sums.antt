@@ -1,25 +1,29 @@
 -- Sums over the numbers from 1 to n.
-use Rattle.std.proofs.Common.{◌≡◌, ℕ, zero, suc, ◌+◌, ◌-◌, ◌*◌, ◌<◌, ◌≤◌, ◌≢◌, ◌⊎◌, sym, refl, ap, inl, inr, mul-zero, arith}
+use Rattle.std.proofs.Common.{◌≡◌, ℕ, zero, suc, ◌+◌, ◌-◌, ◌*◌, ◌<◌, ◌≤◌, ◌≢◌, ◌⊎◌, sym, ap, inl, inr, mul-zero, arith}
 use Rattle.std.proofs.lemmas.Bool.{cases_lt, cases_eq}
 use Rattle.laws.specs.ByNumber.{upto}
 
 abbrev pub In : ℕ → ℕ → Type 0
 In n c = (1 ≤ c) × (c ≤ n)
 
-pub upto_same : (n : ℕ) (f g : ℕ → ℕ) → ((c : ℕ) → In n c → f c ≡ g c) → upto n f ≡ upto n g
+pub upto_minus : (n : ℕ) (f g : ℕ → ℕ) → ((c : ℕ) → In n c → g c ≤ f c) → upto n (λ c. f c - g c) + upto n g ≡ upto n f
 unfolding upto
-upto_same zero f g h = refl
-upto_same (suc n) f g h = omega (arith, upto_same n f g (λ c i. h c (omega arith)), h (suc n) (omega arith))
+upto_minus zero f g h = omega arith
+upto_minus (suc n) f g h = omega (arith, upto_minus n f g (λ c i. h c (omega arith)), h (suc n) (omega arith))
 
 pub upto_le : (n : ℕ) (f g : ℕ → ℕ) → ((c : ℕ) → In n c → f c ≤ g c) → upto n f ≤ upto n g
+upto_le n f g h = omega (arith, upto_minus n g f h)
+
+pub upto_same : (n : ℕ) (f g : ℕ → ℕ) → ((c : ℕ) → In n c → f c ≡ g c) → upto n f ≡ upto n g
+upto_same n f g h = omega (arith, upto_le n f g (λ c i. omega (arith, h c i)), upto_le n g f (λ c i. omega (arith, h c i)))
+
+pub upto_times : (n : ℕ) (k : ℕ) (f : ℕ → ℕ) → upto n (λ c. k * f c) ≡ k * upto n f
 unfolding upto
-upto_le zero f g h = omega arith
-upto_le (suc n) f g h = omega (arith, upto_le n f g (λ c i. h c (omega arith)), h (suc n) (omega arith))
+upto_times zero k f = sym (mul-zero k)
+upto_times (suc n) k f = omega (arith, upto_times n k f)
 
 pub upto_zero : (n : ℕ) → upto n (λ _. 0) ≡ 0
-unfolding upto
-upto_zero zero = refl
-upto_zero (suc n) = omega (arith, upto_zero n)
+upto_zero n = omega (arith, upto_times n 0 (λ _. 0))
 
 -- two functions that differ at c alone
 pub upto_changed : (n : ℕ) (f g : ℕ → ℕ) (c : ℕ) → In n c → ((d : ℕ) → d ≢ c → f d ≡ g d) → upto n f + g c ≡ upto n g + f c
@@ -31,16 +35,6 @@ upto_changed (suc n) f g c i h =
       | inr e ↦ omega (arith, upto_changed n f g c (omega arith) h, h (suc n) (omega arith))
     ]
 
-pub upto_times : (n : ℕ) (k : ℕ) (f : ℕ → ℕ) → upto n (λ c. k * f c) ≡ k * upto n f
-unfolding upto
-upto_times zero k f = sym (mul-zero k)
-upto_times (suc n) k f = omega (arith, upto_times n k f)
-
-pub upto_minus : (n : ℕ) (f g : ℕ → ℕ) → ((c : ℕ) → In n c → g c ≤ f c) → upto n (λ c. f c - g c) + upto n g ≡ upto n f
-unfolding upto
-upto_minus zero f g h = omega arith
-upto_minus (suc n) f g h = omega (arith, upto_minus n f g (λ c i. h c (omega arith)), h (suc n) (omega arith))
-
 pub at_le_upto : (n : ℕ) (f : ℕ → ℕ) (c : ℕ) → In n c → f c ≤ upto n f
 unfolding upto
 at_le_upto zero f c i = omega arith
@@ -48,13 +42,7 @@ at_le_upto (suc n) f c i =
     elim (cases_eq c (suc n)) [ inl e ↦ omega (arith, ap f e) | inr e ↦ omega (arith, at_le_upto n f c (omega arith)) ]
 
 pub upto_lt : (n : ℕ) (f g : ℕ → ℕ) → ((c : ℕ) → In n c → f c ≤ g c) → (c : ℕ) → In n c → f c < g c → upto n f < upto n g
-unfolding upto
-upto_lt zero f g h c i l = omega arith
-upto_lt (suc n) f g h c i l =
-    elim (cases_eq c (suc n)) [
-      | inl e ↦ omega (arith, upto_le n f g (λ d j. h d (omega arith)), ap f e, ap g e)
-      | inr e ↦ omega (arith, upto_lt n f g (λ d j. h d (omega arith)) c (omega arith) l, h (suc n) (omega arith))
-    ]
+upto_lt n f g h c i l = omega (arith, upto_minus n g f h, at_le_upto n (λ d. g d - f d) c i)
 
 -- somewhere f is below g, or nowhere
 pub below_or_not : (n : ℕ) (f g : ℕ → ℕ) → ((c : ℕ) × In n c × (f c < g c)) ⊎ ((c : ℕ) → In n c → g c ≤ f c)
