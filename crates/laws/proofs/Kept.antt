@@ -1,24 +1,23 @@
 -- What every step keeps: holdings and free frames are all frames, the minimums fit, and each client is within its terms.
-use Rattle.std.proofs.Common.{◌≡◌, ℕ, zero, suc, ◌+◌, ◌^◌, ◌<◌, ◌≤◌, Bool, true, false, cond, leb, ◌≢◌, List, [], ◌∷◌, ◌++◌, reverse, length, Some, None, Option, sym, refl, ap, ◌∙◌, subst, inl, inr, arith, length-append}
+use Rattle.std.proofs.Common.{◌≡◌, ℕ, zero, suc, ◌+◌, ◌^◌, ◌<◌, ◌≤◌, ◌≢◌, List, [], ◌∷◌, ◌++◌, reverse, length, Some, None, Option, sym, refl, ap, ◌∙◌, subst, inl, inr, arith, length-append}
 use mathlib.Core.Path.{fun_ext}
 use lib.ListN.{length-reverse}
+use Rattle.std.proofs.lemmas.Option.{same_Some}
+use Rattle.std.proofs.lemmas.Bool.Decides.{nat_tests}
 use Rattle.rules.specs.declared.call.Estimate.{Estimate}
 use Rattle.rules.specs.declared.offer.Terms.{Terms}
 use Rattle.rules.specs.declared.call.Call.TheVariants.{Start, Admit}
 use Rattle.rules.specs.Offers.{Meaning}
 use Rattle.rules.specs.Refusals.{Outside}
 use Rattle.laws.specs.ByNumber.{total, Numbered, put}
-use Rattle.laws.specs.Division.{Clients, Admissible, terms, minimum_of}
-use Rattle.laws.specs.Broker.{Broker, Client, new_broker, present, active_of, terms_of, stack_of}
+use Rattle.laws.specs.Division.{Clients, Admissible, terms}
+use Rattle.laws.specs.Broker.{Broker, Client, new_broker, active_of, terms_of, stack_of}
 use Rattle.laws.specs.Calls.{Admission, IsClear, newcomer, numbers, lasting, lasts, with_stack, with_estimate}
 use Rattle.laws.proofs.Sums.{upto_same, upto_zero}
 use Rattle.laws.proofs.Puts.{put_off, put_each, put_sum}
 
 pub inside : (low high n : ℕ) → (Outside low high n → ⊥) → (low ≤ n) × (n ≤ high)
-inside low high n h =
-    let a : n < low → ⊥ = λ k. h (inl k) in
-    let b : high < n → ⊥ = λ k. h (inr k) in
-    omega arith
+inside low high n h = grind arith
 
 abbrev pub low_of : Option Client → ℕ
 low_of o = (terms (terms_of o)).minimum
@@ -30,11 +29,15 @@ abbrev pub held_of : Option Client → ℕ
 held_of o = length (stack_of o)
 
 pub none_some : {A : Type 0} {a : A} {o : Option A} → o ≡ None → o ≡ Some a → ⊥
-none_some e f = let z : ◌≡◌ {A = ℕ} 0 1 = cc in omega arith
+none_some e f = cc
 
 pub some_there : {A : Type 0} (o : Option A) → (o ≡ None → ⊥) → (a : A) × (o ≡ Some a)
 some_there (Some a) h = (a, refl)
 some_there None h = absurd (h refl)
+
+pub none_there : {A : Type 0} (o : Option A) → ((o ≡ None → ⊥) → ⊥) → o ≡ None
+none_there (Some a) h = absurd (h (λ e. none_some e refl))
+none_there None h = refl
 
 -- one client, in a pool of F frames
 pub record Fit (F c : ℕ) (o : Option Client) : Type 0 where
@@ -70,13 +73,8 @@ pool_put F free left cs c o k i f e l =
       small = k.small;
       all = omega (arith, k.all, put_sum cs c o (λ o. held_of o) i);
       room = omega (arith, k.room, put_sum cs c o (λ o. low_of o) i);
-      each_fits = put_each cs c o (Fit F) f k.each_fits;
+      each_fits = put_each cs c o (Fit F) f (λ d ne. k.each_fits d);
     }
-
--- a client's stack is changed and nothing else of it
-restack : (F c : ℕ) (o : Option Client) (x : Client) (fs : List ℕ) → Fit F c o → o ≡ Some x → length fs ≤ x.maximum → Fit F c (Some (with_stack x fs))
-restack F c o x fs f e l =
-    let g = subst (Fit F c) e f in record { fits = l; order = g.order; within = g.within; sound = g.sound }
 
 -- a client's estimate is changed and nothing else of it
 reestimate : (F c : ℕ) (x : Client) (v : Option Estimate) → ((a : ℕ) → active_of v ≡ Some a → a < 2 ^ 32) → Fit F c (Some x) → Fit F c (Some (with_estimate x v))
@@ -84,17 +82,12 @@ reestimate F c x v small g =
     let a = g.sound _ refl in
     let good : Admissible c (terms (terms_of (Some (with_estimate x v)))) =
     record { numbered = a.numbered; some_shares = a.some_shares; few_shares = a.few_shares; low_class = a.low_class; small_active = small } in
-    record {
-      fits = g.fits;
-      order = g.order;
-      within = g.within;
-      sound = λ t e. let q : terms (terms_of (Some (with_estimate x v))) ≡ t = cc in subst (Admissible c) q good;
-    }
+    record { fits = g.fits; order = g.order; within = g.within; sound = λ t e. subst (Admissible c) (same_Some _ t e) good }
 
 -- other stacks, the same terms
 pub same_terms : (cs : ℕ → Option Client) (c : ℕ) (x : Client) (fs : List ℕ) → cs c ≡ Some x →
     ◌≡◌ {A = Clients} (λ q. terms_of (put cs c (Some (with_stack x fs)) q)) (λ q. terms_of (cs q))
-same_terms cs c x fs e = fun_ext (put_each cs c (Some (with_stack x fs)) (λ q o. terms_of o ≡ terms_of (cs q)) (sym (ap terms_of e)) (λ q. refl))
+same_terms cs c x fs e = fun_ext (put_each cs c (Some (with_stack x fs)) (λ q o. terms_of o ≡ terms_of (cs q)) (sym (ap terms_of e)) (λ q ne. refl))
 
 length_numbers : (i n : ℕ) → length (numbers i n) ≡ n
 unfolding numbers
@@ -114,7 +107,8 @@ started_kept m b u F k clear =
 
 pub admitted_kept : (m : Meaning) (b : Broker) (a : Admission) → Kept b → IsClear m b (Admit a) →
     Pool b.frames (length b.free) (put b.clients a.client (Some (newcomer a)))
-admitted_kept m b a p clear = go (b.clients a.client) refl
+admitted_kept m b a p clear =
+    pool_put b.frames (length b.free) (length b.free) b.clients a.client (Some (newcomer a)) p i fit (omega (arith, ap held_of none)) (omega (arith, clear.1.1.1.1.1.1.1.0, ap low_of none))
   where
     i : Numbered a.client
     i = inside 1 256 a.client clear.0
@@ -122,60 +116,53 @@ admitted_kept m b a p clear = go (b.clients a.client) refl
     j : (1 ≤ a.shares) × (a.shares ≤ 1_000_000)
     j = inside 1 1_000_000 a.shares clear.1.0
 
-    class_low : 9 < a.class → ⊥
-    class_low g = clear.1.1.0 g
+    none : b.clients a.client ≡ None
+    none = none_there (b.clients a.client) clear.1.1.1.1.1.0
 
     order : a.maximum < a.minimum → ⊥
     order g = clear.1.1.1.0 (inr g)
 
-    above : b.frames < a.maximum → ⊥
-    above g = clear.1.1.1.1.1.1.0 g
-
-    rooms : b.frames < total (minimum_of (present b)) + a.minimum → ⊥
-    rooms g = clear.1.1.1.1.1.1.1.0 g
-
     good : Admissible a.client (terms (terms_of (Some (newcomer a))))
-    good = record { numbered = i; some_shares = j.0; few_shares = j.1; low_class = omega (arith, class_low); small_active = λ n e. absurd (none_some refl e) }
+    good = record { numbered = i; some_shares = j.0; few_shares = j.1; low_class = omega (arith, clear.1.1.0); small_active = λ n e. absurd (none_some refl e) }
 
     fit : Fit b.frames a.client (Some (newcomer a))
     fit =
         record {
           fits = omega arith;
           order = omega (arith, order);
-          within = omega (arith, above);
-          sound = λ t e. let q : terms (terms_of (Some (newcomer a))) ≡ t = cc in subst (Admissible a.client) q good;
+          within = omega (arith, clear.1.1.1.1.1.1.0);
+          sound = λ t e. subst (Admissible a.client) (same_Some _ t e) good;
         }
 
-    go : (o : Option Client) → b.clients a.client ≡ o → Pool b.frames (length b.free) (put b.clients a.client (Some (newcomer a)))
-    go (Some z) e = absurd (clear.1.1.1.1.1.0 (λ n. none_some n e))
-    go None e = pool_put b.frames (length b.free) (length b.free) b.clients a.client (Some (newcomer a)) p i fit (omega (arith, ap held_of e)) (omega (arith, rooms))
-
 module _ (F : ℕ) (cs : ℕ → Option Client) (c : ℕ) (x : Client) (e : cs c ≡ Some x) where
+  replaced : (free left : ℕ) (o : Option Client) → Pool F free cs → Fit F c o → held_of o + left ≡ length x.stack + free → low_of o ≤ x.minimum → Pool F left (put cs c o)
+  replaced free left o k f s l =
+      pool_put F free left cs c o k (numbered F c (cs c) x (k.each_fits c) e) f (omega (arith, s, ap held_of e)) (omega (arith, l, ap low_of e, k.room))
+
+  fit : (free : ℕ) → Pool F free cs → Fit F c (Some x)
+  fit free k = subst (Fit F c) e (k.each_fits c)
+
   -- the client gets another stack
   stack_kept : (free left : ℕ) (fs : List ℕ) → Pool F free cs → length fs ≤ x.maximum → length fs + left ≡ length x.stack + free →
       Pool F left (put cs c (Some (with_stack x fs)))
   stack_kept free left fs k l s =
-      pool_put F free left cs c (Some (with_stack x fs)) k (numbered F c (cs c) x (k.each_fits c) e) (restack F c (cs c) x fs (k.each_fits c) e l)
-      (omega (arith, ap held_of e)) (omega (arith, ap low_of e, k.room))
+      let f = fit free k in
+      replaced free left (Some (with_stack x fs)) k (record { fits = l; order = f.order; within = f.within; sound = f.sound }) s (omega arith)
 
   pub free_kept : (free fs : List ℕ) (f : ℕ) → Pool F (length free) cs → free ≡ f ∷ fs → held_of (cs c) < high_of (cs c) → Pool F (length fs) (put cs c (Some (with_stack x (f ∷ x.stack))))
   free_kept free fs f k g room =
-      stack_kept (length free) (length fs) (f ∷ x.stack) k (omega (arith, ap held_of e, ap high_of e)) (omega (arith, ap length g))
+      stack_kept (length free) (length fs) (f ∷ x.stack) k (omega (arith, room, ap held_of e, ap high_of e)) (omega (arith, ap length g))
 
   pub back_kept : (free fs : List ℕ) (f : ℕ) → Pool F (length free) cs → x.stack ≡ f ∷ fs → Pool F (length (f ∷ free)) (put cs c (Some (with_stack x fs)))
   back_kept free fs f k g =
-      stack_kept (length free) (length (f ∷ free)) fs k (omega (arith, (k.each_fits c).fits, ap held_of e, ap high_of e, ap length g)) (omega (arith, ap length g))
+      stack_kept (length free) (length (f ∷ free)) fs k (omega (arith, (fit (length free) k).fits, ap length g)) (omega (arith, ap length g))
 
   pub left_kept : (free : List ℕ) → Pool F (length free) cs → Pool F (length (reverse x.stack ++ free)) (put cs c None)
   left_kept free k =
-      pool_put F (length free) (length (reverse x.stack ++ free)) cs c None k (numbered F c (cs c) x (k.each_fits c) e) (nobody_fits F c)
-      (omega (arith, ap held_of e, length-append (reverse x.stack) free, length-reverse x.stack))
-      (omega (arith, k.room))
+      replaced (length free) (length (reverse x.stack ++ free)) None k (nobody_fits F c) (omega (arith, length-append (reverse x.stack) free, length-reverse x.stack)) (omega arith)
 
   pub estimated_kept : (free : ℕ) (v : Option Estimate) → ((a : ℕ) → active_of v ≡ Some a → a < 2 ^ 32) → Pool F free cs → Pool F free (put cs c (Some (with_estimate x v)))
-  estimated_kept free v small k =
-      pool_put F free free cs c (Some (with_estimate x v)) k (numbered F c (cs c) x (k.each_fits c) e) (reestimate F c x v small (subst (Fit F c) e (k.each_fits c)))
-      (omega (arith, ap held_of e)) (omega (arith, ap low_of e, k.room))
+  estimated_kept free v small k = replaced free free (Some (with_estimate x v)) k (reestimate F c x v small (fit free k)) refl (omega arith)
 
 -- c gets the top frame of p
 pub from_kept : (F : ℕ) (cs : ℕ → Option Client) (c p f : ℕ) (fs : List ℕ) (x y : Client) → Pool F 0 cs → p ≢ c →
@@ -188,20 +175,15 @@ from_kept F cs c p f fs x y k ne e g h room =
 
 -- an estimate that lasts is the one that was
 lasts_active : (t : ℕ) (v : Option Estimate) (a : ℕ) → active_of (lasts t v) ≡ Some a → active_of v ≡ Some a
-lasts_active t (Some e) a h = go (leb e.end t) h
-  where
-    go : (q : Bool) → active_of (cond q None (Some e)) ≡ Some a → active_of (Some e) ≡ Some a
-    go true g = absurd (none_some refl g)
-    go false g = g
-lasts_active t None a h = h
+lasts_active t v a h = grind (arith, nat_tests)
 
 lasting_fit : (F c t : ℕ) (o : Option Client) → Fit F c o → Fit F c (lasting t o)
 lasting_fit F c t (Some x) f = reestimate F c x (lasts t x.estimate) (λ a e. (f.sound _ refl).small_active a (lasts_active t x.estimate a e)) f
 lasting_fit F c t None f = f
 
-pub lasting_held : (t : ℕ) (o : Option Client) → held_of (lasting t o) ≡ held_of o
-lasting_held t (Some x) = refl
-lasting_held t None = refl
+pub lasting_stack : (t : ℕ) (o : Option Client) → stack_of (lasting t o) ≡ stack_of o
+lasting_stack t (Some x) = refl
+lasting_stack t None = refl
 
 lasting_low : (t : ℕ) (o : Option Client) → low_of (lasting t o) ≡ low_of o
 lasting_low t (Some x) = refl
@@ -211,7 +193,7 @@ pub clocked_kept : (F : ℕ) (cs : ℕ → Option Client) (free : ℕ) (t : ℕ)
 clocked_kept F cs free t k =
     record {
       small = k.small;
-      all = omega (arith, k.all, upto_same 256 (λ c. held_of (lasting t (cs c))) (λ c. held_of (cs c)) (λ c i. lasting_held t (cs c)));
+      all = omega (arith, k.all, upto_same 256 (λ c. held_of (lasting t (cs c))) (λ c. held_of (cs c)) (λ c i. ap length (lasting_stack t (cs c))));
       room = omega (arith, k.room, upto_same 256 (λ c. low_of (lasting t (cs c))) (λ c. low_of (cs c)) (λ c i. lasting_low t (cs c)));
       each_fits = λ c. lasting_fit F c t (cs c) (k.each_fits c);
     }

@@ -1,6 +1,6 @@
 -- Every frame lies in exactly one stack, once.
 use Rattle.std.proofs.Common.{◌≡◌, ℕ, zero, suc, ◌+◌, ◌≤◌, cond, eqb, leb, List, [], ◌∷◌, ◌++◌, reverse, length, Some, None, Option, sym, refl, ap, ◌∙◌, subst, arith, Result}
-use mathlib.Core.List.{reverse_aux}
+use mathlib.Core.List.{reverse_aux, reverse_aux-eq}
 use Rattle.std.proofs.lemmas.Bool.Decides.{nat_tests}
 use Rattle.rules.specs.declared.call.Call.{Call}
 use Rattle.rules.specs.declared.call.Answer.{Answer}
@@ -14,22 +14,13 @@ use Rattle.laws.specs.Histories.{Event, Run, start, then}
 use Rattle.laws.specs.Laws.{times, FramesLieOnce}
 use Rattle.laws.proofs.Sums.{upto_same, upto_le, upto_zero}
 use Rattle.laws.proofs.Puts.{put_off, put_sum}
-use Rattle.laws.proofs.Kept.{Kept, inside, none_some, numbered}
+use Rattle.laws.proofs.Kept.{Kept, inside, none_there, numbered, lasting_stack}
 use Rattle.laws.proofs.Runs.{ask_room, from_other, history_kept}
-
-times_append : (f : ℕ) (xs ys : List ℕ) → times f (xs ++ ys) ≡ times f xs + times f ys
-unfolding times
-times_append f [] ys = omega arith
-times_append f (x ∷ xs) ys = omega (arith, times_append f xs ys)
 
 times_back : (f : ℕ) (xs ys : List ℕ) → times f (reverse_aux xs ys) ≡ times f xs + times f ys
 unfolding times
 times_back f [] ys = omega arith
 times_back f (x ∷ xs) ys = omega (arith, times_back f xs (x ∷ ys))
-
-times_reverse : (f : ℕ) (xs : List ℕ) → times f (reverse xs) ≡ times f xs
-unfolding times
-times_reverse f xs = omega (arith, times_back f xs [])
 
 times_le : (f : ℕ) (xs : List ℕ) → times f xs ≤ length xs
 unfolding times
@@ -68,18 +59,7 @@ module _ (f : ℕ) (cs : ℕ → Option Client) (free : List ℕ) (c : ℕ) (x :
 
   leave_lies : lies f (reverse x.stack ++ free) (put cs c None) ≡ lies f free cs
   unfolding times
-  leave_lies = lies_put f free (reverse x.stack ++ free) cs c None i (omega (arith, ap (here f) e, times_append f (reverse x.stack) free, times_reverse f x.stack))
-
-admit_lies : (f : ℕ) (b : Broker) (c : ℕ) (x : Client) → x.stack ≡ [] → Numbered c → ((y : Client) → b.clients c ≡ Some y → ⊥) → lies f b.free (put b.clients c (Some x)) ≡ lies f b.free b.clients
-admit_lies f b c x n i none = go (b.clients c) refl
-  where
-    go : (o : Option Client) → b.clients c ≡ o → lies f b.free (put b.clients c (Some x)) ≡ lies f b.free b.clients
-    go (Some y) e = absurd (none y e)
-    go None e = lies_put f b.free b.free b.clients c (Some x) i (omega (arith, ap (here f) e, ap (times f) n))
-
-lasting_here : (f t : ℕ) (o : Option Client) → here f (lasting t o) ≡ here f o
-lasting_here f t (Some x) = refl
-lasting_here f t None = refl
+  leave_lies = lies_put f free (reverse x.stack ++ free) cs c None i (omega (arith, ap (here f) e, ap (times f) (reverse_aux-eq x.stack free), times_back f x.stack free))
 
 module _ (m : Meaning) (l : Lawful m) (f : ℕ) (b : Broker) (k : Kept b) (o : lies f b.free b.clients ≡ once b.frames f) where
   there : (c : ℕ) (x : Client) → b.clients c ≡ Some x → Numbered c
@@ -94,8 +74,8 @@ module _ (m : Meaning) (l : Lawful m) (f : ℕ) (b : Broker) (k : Kept b) (o : l
       let t = times_numbers f 1 F in
       grind (arith, nat_tests)
   step_once x a d (Calls.admitted {a = q} clear) =
-      admit_lies f b q.client (newcomer q) refl
-      (inside 1 256 q.client clear.0) (λ y e. clear.1.1.1.1.1.0 (λ n. none_some n e)) ∙ o
+      lies_put f b.free b.free b.clients q.client (Some (newcomer q)) (inside 1 256 q.client clear.0)
+      (omega (arith, ap (here f) (none_there (b.clients q.client) clear.1.1.1.1.1.0))) ∙ o
   step_once x a d (Calls.granted_free {c = c} {f = g} {fs = gs} {x = y} clear e q) = grant_lies f b.clients b.free c y e (there c y e) g gs q ∙ o
   step_once x a d (Calls.granted_from {c = c} {p = p} {f = g} {fs = gs} {x = y} {y = z} clear e h t i j) =
       let ne = from_other m l b k c p (ask_room m b c clear) t in
@@ -110,7 +90,7 @@ module _ (m : Meaning) (l : Lawful m) (f : ℕ) (b : Broker) (k : Kept b) (o : l
   step_once x a d (Calls.estimated {c = c} {e = v} {x = y} clear e) =
       lies_put f b.free b.free b.clients c (Some (with_estimate y (Some v))) (there c y e) (omega (arith, ap (here f) e)) ∙ o
   step_once x a d (Calls.clocked {t = t} clear) =
-      omega (arith, o, upto_same 256 (λ c. here f (lasting t (b.clients c))) (λ c. here f (b.clients c)) (λ c i. lasting_here f t (b.clients c)))
+      omega (arith, o, upto_same 256 (λ c. here f (lasting t (b.clients c))) (λ c. here f (b.clients c)) (λ c i. ap (times f) (lasting_stack t (b.clients c))))
 
 run_once : (m : Meaning) → Lawful m → (f : ℕ) (h : List Event) (b : Broker) → Run m new_broker h b → lies f b.free b.clients ≡ once b.frames f
 unfolding times

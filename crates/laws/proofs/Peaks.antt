@@ -2,7 +2,7 @@
 use Rattle.std.proofs.Common.{◌≡◌, ℕ, ◌+◌, ◌<◌, ◌≤◌, false, ◌≢◌, refl, ap, inl, inr, arith}
 use Rattle.std.proofs.lemmas.Bool.{cases_lt, both_ways}
 use Rattle.laws.specs.ByNumber.{total, Numbered, put}
-use Rattle.laws.proofs.Puts.{each_but, each_but_two, put_at, put_off, put_sum}
+use Rattle.laws.proofs.Puts.{each_but_two, put_at, put_off, put_each, put_sum}
 use Rattle.laws.proofs.Contest.{Contest, Can, no_rise}
 use Rattle.laws.proofs.Payer.{Yields}
 
@@ -31,17 +31,17 @@ module _ (K : Contest) where
   peaks_free h o free left peak c t room some at off =
       record {
         held = λ d. omega (arith, same d);
-        fits = each_but c (λ d. raise c peak d ≤ K.cap d) (omega (arith, put_at peak c (peak c + 1), level c)) (λ d e. omega (arith, put_off peak c (peak c + 1) d e, t.fits d));
+        fits = put_each peak c (peak c + 1) (λ d n. n ≤ K.cap d) (omega (arith, level c)) (λ d e. t.fits d);
         none_free = λ d k. absurd (omega (arith, same d));
         kept = λ d k. absurd (omega (arith, same d));
         lost = λ d k. absurd (omega (arith, same d));
       }
     where
       level : (d : ℕ) → h d ≡ peak d
-      level d = elim (cases_lt (h d) (peak d)) [ inl k ↦ absurd (omega (arith, t.none_free d k)) | inr k ↦ omega (arith, t.held d) ]
+      level d = grind (arith, t.held d, t.none_free d)
 
       same : (d : ℕ) → o d ≡ raise c peak d
-      same = each_but c (λ d. o d ≡ raise c peak d) (omega (arith, put_at peak c (peak c + 1), level c)) (λ d e. omega (arith, off d e, put_off peak c (peak c + 1) d e, level d))
+      same = put_each peak c (peak c + 1) (λ d n. o d ≡ n) (omega (arith, at, level c)) (λ d e. omega (arith, off d e, level d))
 
   -- c gets a frame of p
   pub peaks_take : (h o : ℕ → ℕ) (peak : ℕ → ℕ) (c p : ℕ) → Peaks h 0 peak → h c < K.cap c → Yields K h c p →
@@ -49,7 +49,7 @@ module _ (K : Contest) where
   peaks_take h o peak c p t room y at from off =
       record {
         held = each_but_two c p (λ d. o d ≤ raise c peak d) (omega (arith, at_c, t.held c)) (omega (arith, t.held p, at_p)) (λ d e f. omega (arith, off d e f, off_c d e, t.held d));
-        fits = each_but c (λ d. raise c peak d ≤ K.cap d) (omega (arith, at_c, level)) (λ d e. omega (arith, off_c d e, t.fits d));
+        fits = put_each peak c (peak c + 1) (λ d n. n ≤ K.cap d) (omega (arith, level)) (λ d e. t.fits d);
         none_free = λ d k. refl;
         kept = each_but_two c p (λ d. o d < raise c peak d → K.low d ≤ o d) (λ k. absurd (omega (arith, at_c, level))) (λ k. omega (arith, y.0.beyond))
             (λ d e f k. omega (arith, off d e f, off_c d e, t.kept d));

@@ -21,8 +21,8 @@ module _ {A : Type 0} (f : ℕ → A) (c : ℕ) (x : A) where
   unfolding put
   put_off d ne = grind (arith, nat_tests)
 
-  pub put_each : (P : ℕ → A → Type 0) → P c x → ((d : ℕ) → P d (f d)) → (d : ℕ) → P d (put f c x d)
-  put_each P a b = each_but c (λ d. P d (put f c x d)) (rw put_at a) (λ d ne. rw (put_off d ne) (b d))
+  pub put_each : (P : ℕ → A → Type 0) → P c x → ((d : ℕ) → d ≢ c → P d (f d)) → (d : ℕ) → P d (put f c x d)
+  put_each P a b = each_but c (λ d. P d (put f c x d)) (rw put_at a) (λ d ne. rw (put_off d ne) (b d ne))
 
   pub put_sum : (g : A → ℕ) → Numbered c → total (λ d. g (put f c x d)) + g (f c) ≡ total (λ d. g (f d)) + g x
   put_sum g i = rw put_at at (upto_changed 256 (λ d. g (put f c x d)) (λ d. g (f d)) c i (λ d ne. ap g (put_off d ne)))

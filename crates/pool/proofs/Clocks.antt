@@ -1,6 +1,7 @@
 -- A clock that drops one estimate after another makes one step.
-use Rattle.std.proofs.Common.{◌≡◌, ℕ, zero, suc, ◌+◌, ◌≤◌, Bool, true, false, cond, leb, Some, None, Ok, Option, sym, refl, ap, ◌∙◌, arith}
+use Rattle.std.proofs.Common.{◌≡◌, ℕ, zero, suc, ◌+◌, ◌≤◌, Some, None, Ok, Option, sym, refl, ap, ◌∙◌, arith}
 use mathlib.Core.Path.{fun_ext}
+use Rattle.std.proofs.lemmas.Bool.Decides.{nat_tests}
 use Rattle.rules.specs.Offers.{Meaning}
 use Rattle.laws.specs.ByNumber.{upto, total, Numbered, put}
 use Rattle.laws.specs.Broker.{Estimate, Client, Broker}
@@ -12,21 +13,11 @@ use Rattle.pool.specs.Clocks.{Clocked}
 
 -- an estimate that ends by the tick is dropped by it
 dropped : (t : ℕ) (v : Option Estimate) → ended t v ≡ 1 → lasts t v ≡ None
-dropped t (Some e) h = go (leb e.end t) h
-  where
-    go : (q : Bool) → ◌≡◌ {A = ℕ} (cond q 1 0) 1 → cond q None (Some e) ≡ None
-    go true g = refl
-    go false g = absurd (omega arith)
-dropped t None h = refl
+dropped t v h = grind (arith, nat_tests)
 
 -- an estimate that does not end by the tick is left as it is
 left : (t : ℕ) (v : Option Estimate) → ended t v ≡ 0 → lasts t v ≡ v
-left t (Some e) h = go (leb e.end t) h
-  where
-    go : (q : Bool) → ◌≡◌ {A = ℕ} (cond q 1 0) 0 → cond q None (Some e) ≡ Some e
-    go true g = absurd (omega arith)
-    go false g = refl
-left t None h = refl
+left t v h = grind (arith, nat_tests)
 
 all_left : (t : ℕ) (o : Option Client) → ends t o ≡ 0 → lasting t o ≡ o
 all_left t (Some x) h = ap (λ v. Some (with_estimate x v)) (left t x.estimate h)
@@ -40,31 +31,15 @@ module _ (t : ℕ) (ds : ℕ → Option Client) (c : ℕ) (x : Client) (i : Numb
   pub clocked_one : (cs : ℕ → Option Client) (n : ℕ) → Clocked t cs n ds → Clocked t cs (n + 1) (put ds c (Some (with_estimate x None)))
   clocked_one cs n k =
       record {
-        last = put_each ds c (Some (with_estimate x None)) (λ d o. lasting t o ≡ lasting t (cs d)) (without ∙ k.last c) k.last;
+        last = put_each ds c (Some (with_estimate x None)) (λ d o. lasting t o ≡ lasting t (cs d)) (without ∙ k.last c) (λ d ne. k.last d);
         count = omega (arith, k.count, clocked_falls);
       }
     where
       without : lasting t (Some (with_estimate x None)) ≡ lasting t (ds c)
       without = ap (λ v. Some (with_estimate x v)) (sym (dropped t x.estimate h)) ∙ ap (lasting t) (sym e)
 
-pub clocked_all : (t : ℕ) (cs : ℕ → Option Client) (n : ℕ) (ds : ℕ → Option Client) → Clocked t cs n ds → ((c : ℕ) → ends t (ds c) ≡ 0) →
-    (ds ≡ (λ c. lasting t (cs c))) × (n ≡ total (λ c. ends t (cs c)))
-clocked_all t cs n ds k h = (
-  fun_ext (λ c. sym (all_left t (ds c) (h c)) ∙ k.last c),
-  omega (arith, k.count, upto_same 256 (λ c. ends t (ds c)) (λ _. 0) (λ c i. h c), upto_zero 256),
-)
-
 ends_one : (t : ℕ) (o : Option Client) → ends t o ≤ 1
-ends_one t (Some x) = one x.estimate
-  where
-    one : (v : Option Estimate) → ended t v ≤ 1
-    one (Some e) = go (leb e.end t)
-      where
-        go : (q : Bool) → cond q 1 0 ≤ 1
-        go true = omega arith
-        go false = omega arith
-    one None = omega arith
-ends_one t None = omega arith
+ends_one t o = grind (arith, nat_tests)
 
 few_upto : (n : ℕ) (f : ℕ → ℕ) → ((c : ℕ) → f c ≤ 1) → upto n f ≤ n
 unfolding upto
@@ -77,4 +52,6 @@ few_end t cs = few_upto 256 (λ c. ends t (cs c)) (λ c. ends_one t (cs c))
 pub clock_step : (m : Meaning) (b : Broker) (t n : ℕ) (ds : ℕ → Option Client) → IsClear m b (SetClock t) → Clocked t b.clients n ds → ((c : ℕ) → ends t (ds c) ≡ 0) →
     Step m b (SetClock t) (Ok (Count n)) (record { unit = b.unit; frames = b.frames; tick = t; asks = b.asks; free = b.free; clients = ds; passage = b.passage })
 clock_step m b t n ds clear k h =
-    let all = clocked_all t b.clients n ds k h in rw (all.0, all.1) (Calls.clocked clear)
+    let same : ds ≡ (λ c. lasting t (b.clients c)) = fun_ext (λ c. sym (all_left t (ds c) (h c)) ∙ k.last c) in
+    let counted : n ≡ total (λ c. ends t (b.clients c)) = omega (arith, k.count, upto_same 256 (λ c. ends t (ds c)) (λ _. 0) (λ c i. h c), upto_zero 256) in
+    rw (same, counted) (Calls.clocked clear)
