@@ -1,12 +1,13 @@
 -- Runs: what holds at each of their brokers, and how they are cut and joined.
-use Rattle.std.proofs.Common.{◌≡◌, ℕ, ◌^◌, ◌<◌, ◌≤◌, ◌≢◌, List, [], ◌∷◌, ◌++◌, length, Some, sym, refl, subst, arith, Err, Result}
+use Rattle.std.proofs.Common.{◌≡◌, ℕ, ◌<◌, ◌≤◌, ◌≢◌, List, [], ◌∷◌, ◌++◌, length, Some, sym, refl, subst, arith, Err, Result}
+use Rattle.std.proofs.lemmas.Option.{same_Some}
 use Rattle.rules.specs.declared.call.Call.{Call}
 use Rattle.rules.specs.declared.call.Call.TheVariants.{Ask}
 use Rattle.rules.specs.declared.call.Answer.{Answer}
 use Rattle.rules.specs.declared.refusal.Refusal.{Refusal}
 use Rattle.rules.specs.Offers.{Meaning, Lawful}
-use Rattle.laws.specs.Division.{capped}
-use Rattle.laws.specs.Broker.{Broker, new_broker, present, holding, maximum_of, active_of, MayTake}
+use Rattle.laws.specs.Division.{AllAdmissible, capped}
+use Rattle.laws.specs.Broker.{Broker, new_broker, present, holding, maximum_of, MayTake}
 use Rattle.laws.specs.Calls
 use Rattle.laws.specs.Calls.{Step, IsClear, RefusedBy}
 use Rattle.laws.specs.Histories.{Event, Run, start, then, reached, IsRefused}
@@ -20,8 +21,11 @@ ask_room m b c clear = omega arith
 
 -- the clients of a broker, as they may hold frames
 module _ (m : Meaning) (l : Lawful m) (b : Broker) (k : Kept b) where
+  pub all_sound : AllAdmissible (present b)
+  all_sound c = (k.each_fits c).sound
+
   abbrev pub contest_of : Contest
-  contest_of = contest m l b.frames k.small (present b) (λ c t e. (k.each_fits c).sound t e)
+  contest_of = contest m l b.frames k.small (present b) all_sound
 
   pub cap_is : (c : ℕ) → capped b.frames (present b) c ≡ maximum_of b c
   cap_is c = omega (arith, (k.each_fits c).within)
@@ -47,13 +51,7 @@ step_kept m l b x a d k (Calls.delivered clear) = k
 step_kept m l b x a d k (Calls.handed_back {c = c} {f = f} {fs = fs} {x = y} clear e g) = back_kept b.frames b.clients c y e b.free fs f k g
 step_kept m l b x a d k (Calls.left {c = c} {x = y} clear e) = left_kept b.frames b.clients c y e b.free k
 step_kept m l b x a d k (Calls.estimated {c = c} {e = v} {x = y} clear e) =
-    estimated_kept b.frames b.clients c y e (length b.free) (Some v) few k
-  where
-    above : b.frames < v.active → ⊥
-    above = clear.1.1.1.0
-
-    few : (n : ℕ) → active_of (Some v) ≡ Some n → n < 2 ^ 32
-    few n q = let same : v.active ≡ n = cc in omega (arith, above, k.small)
+    estimated_kept b.frames b.clients c y e (length b.free) (Some v) (λ n q. omega (arith, same_Some v.active n q, clear.1.1.1.0, k.small)) k
 step_kept m l b x a d k (Calls.clocked {t = t} clear) = clocked_kept b.frames b.clients (length b.free) t k
 
 pub run_kept : (m : Meaning) → Lawful m → (b : Broker) (h : List Event) (d : Broker) → Kept b → Run m b h d → Kept d
@@ -67,18 +65,7 @@ history_kept m l h b r = run_kept m l new_broker h b new_kept r
 pub refused_step : (m : Meaning) (b : Broker) (x : Call) (a : Result Answer Refusal) (d : Broker) → IsRefused a → Step m b x a d →
     (r : Refusal) × RefusedBy m b x r × (a ≡ Err r) × (d ≡ b)
 refused_step m b x a d n (Calls.refused {r = r} q) = (r, q, refl, refl)
-refused_step m b x a d n (Calls.started clear) = absurd (n tt)
-refused_step m b x a d n (Calls.admitted clear) = absurd (n tt)
-refused_step m b x a d n (Calls.granted_free clear e g) = absurd (n tt)
-refused_step m b x a d n (Calls.granted_from clear e g t i h) = absurd (n tt)
-refused_step m b x a d n (Calls.delivered clear) = absurd (n tt)
-refused_step m b x a d n (Calls.handed_back clear e g) = absurd (n tt)
-refused_step m b x a d n (Calls.left clear e) = absurd (n tt)
-refused_step m b x a d n (Calls.estimated clear e) = absurd (n tt)
-refused_step m b x a d n (Calls.clocked clear) = absurd (n tt)
-
-pub unchanged : (m : Meaning) (b : Broker) (x : Call) (a : Result Answer Refusal) (d : Broker) → IsRefused a → Step m b x a d → d ≡ b
-unchanged m b x a d n s = (refused_step m b x a d n s).3
+refused_step m b x a d n s = absurd (n tt)
 
 pub refused_by : (m : Meaning) (b : Broker) (x : Call) (r : Refusal) (d : Broker) → Step m b x (Err r) d → RefusedBy m b x r
 refused_by m b x r d (Calls.refused q) = q

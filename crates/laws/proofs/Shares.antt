@@ -1,8 +1,8 @@
 -- Under the share price, with every minimum within its client's proportional share: who is outbid has its share, rounded
 -- down, and who loses a frame had more.
-use Rattle.std.proofs.Common.{◌≡◌, ℕ, ◌+◌, ◌*◌, ◌<◌, ◌≤◌, true, ◌⊎◌, ap, inl, inr, mul-le-mul_right, lt_of_mul-lt-mul_right, mul-le-mul_left, mul-lt-mul_of_pos_right, arith}
-use native.Mathlib.Nat.{lt_of_mul-lt-mul_left}
-use Rattle.std.proofs.lemmas.Bool.{cases_lt, cases_Bool, both_ways}
+use Rattle.std.proofs.Common.{◌≡◌, ℕ, ◌+◌, ◌*◌, ◌<◌, ◌≤◌, true, ◌⊎◌, ap, inl, inr, lt_of_mul-lt-mul_right, mul-le-mul_left, mul-lt-mul_of_pos_right, arith}
+use native.Mathlib.Nat.{lt_of_mul-lt-mul_left, le_of_mul-le-mul_left}
+use Rattle.std.proofs.lemmas.Bool.{cases_lt, false_from_ne_true, both_ways}
 use Rattle.laws.specs.ByNumber.{total}
 use Rattle.laws.proofs.Sums.{In, upto_lt, upto_times, below_or_not, below_too, at_le_upto}
 use Rattle.laws.proofs.Contest.{Contest, Can}
@@ -38,8 +38,7 @@ module _ (K : Contest) (h : ℕ → ℕ) (fits : (c : ℕ) → h c ≤ K.cap c) 
 
   -- a client outbid has its part, rounded down: one frame more would be over it
   pub outbid_has_part : (c : ℕ) → h c < K.cap c → OutbidAt K h 0 c → F * sh c < (h c + 1) * total sh
-  outbid_has_part c k o =
-      elim (cases_lt (F * sh c) ((h c + 1) * total sh)) [ inl g ↦ g | inr g ↦ absurd (no g) ]
+  outbid_has_part c k o = omega (arith, no)
     where
       no : (h c + 1) * total sh ≤ F * sh c → ⊥
       no g =
@@ -50,10 +49,8 @@ module _ (K : Contest) (h : ℕ → ℕ) (fits : (c : ℕ) → h c ≤ K.cap c) 
             | inl under ↦ o.1 p (q, inl under)
             | inr ge ↦
                 let w = fraction c (h c + 1) d (h d) (omega arith) (omega (arith, fits d)) (omega arith) b (crossed F S (sh c) (h c + 1) (sh d) (h d) (omega arith) g (omega arith)) in
-                elim (cases_Bool (K.over c (h c + 1) p (h p))) [
-                  | inl x ↦ o.1 p (q, inr x)
-                  | inr x ↦ both_ways (K.over c (h c + 1) d (h d)) (K.past c (h c + 1) p (h p) d (h d) (omega arith) (omega (arith, q.beyond, fits p)) (omega (arith, fits d)) x (q.lowest d b)) w
-                ]
+                let x = false_from_ne_true (K.over c (h c + 1) p (h p)) (λ e. o.1 p (q, inr e)) in
+                both_ways (K.over c (h c + 1) d (h d)) (K.past c (h c + 1) p (h p) d (h d) (omega arith) (omega (arith, q.beyond, fits p)) (omega (arith, fits d)) x (q.lowest d b)) w
           ]
 
   -- a client that loses a frame had more than its part
@@ -69,9 +66,9 @@ module _ (K : Contest) (h : ℕ → ℕ) (fits : (c : ℕ) → h c ≤ K.cap c) 
           let b = beyond d more in
           both_ways (K.over p (h p) d (h d)) (y.0.lowest d b) (fraction p (h p) d (h d) can (omega (arith, fits d)) y.0.beyond b (crossed F S (sh p) (h p) (sh d) (h d) (omega (arith, y.0.beyond)) g (omega arith)))
       no g (inr a) =
-          let e : F * sh c ≤ S * h c = elim (cases_lt (have c) (due c)) [ inl lt ↦ absurd (omega (arith, equal, upto_lt 256 have due a c (K.numbered c (omega arith)) lt)) | inr ge ↦ ge ] in
+          let e : F * sh c ≤ S * h c = grind (arith, equal, upto_lt 256 have due a c (K.numbered c (omega arith))) in
           let s = positive c k in
-          let b : K.low c ≤ h c = elim (cases_lt (h c) (K.low c)) [ inl lt ↦ absurd (omega (arith, within c, mul-le-mul_right S lt)) | inr ge ↦ ge ] in
+          let b : K.low c ≤ h c = le_of_mul-le-mul_left {k = S} (omega (arith, within c)) s in
           let w = fraction p (h p) c (h c + 1) can (omega arith) y.0.beyond (omega arith) (crossed F S (sh p) (h p) (sh c) (h c + 1) (omega (arith, y.0.beyond)) g (omega arith)) in
           let v = K.asym p (h p) c (h c + 1) can (omega arith) w in
           elim y.1 [ inl lt ↦ omega arith | inr x ↦ both_ways (K.over c (h c + 1) p (h p)) v x ]

@@ -1,6 +1,6 @@
 -- Under the share price, from an ask that was turned away on, a client is not shorted.
 use Rattle.std.proofs.Common.{◌≡◌, ℕ, ◌+◌, ◌*◌, ◌/◌, ◌<◌, ◌≤◌, min, true, ◌≢◌, ◌⊎◌, List, [], ◌∷◌, ◌++◌, length, Some, None, Option, sym, refl, ap, ◌∙◌, subst, inl, inr, lt_of_mul-lt-mul_right, div-mul-le_self, arith, Result}
-use Rattle.std.proofs.lemmas.Bool.{cases_lt, cases_eq}
+use Rattle.std.proofs.lemmas.Bool.{cases_lt}
 use Rattle.std.proofs.lemmas.Bool.Decides.{nat_tests}
 use Rattle.rules.specs.declared.call.Call.{Call}
 use Rattle.rules.specs.declared.call.Call.TheVariants.{HandBack, Leave}
@@ -11,47 +11,28 @@ use Rattle.rules.specs.Rank.{above, ranks, offer_of}
 use Rattle.rules.specs.Laws.{Made}
 use Rattle.laws.specs.ByNumber.{total, put}
 use Rattle.laws.specs.Division.{Clients, terms, minimum_of, capped, bid_of}
-use Rattle.laws.specs.Broker.{Broker, Client, new_broker, present, holding, maximum_of, shares_of, all_shares, share_of, MinimumsWithin, terms_of, MayTake}
+use Rattle.laws.specs.Broker.{Broker, Client, new_broker, present, holding, maximum_of, shares_of, all_shares, share_of, MinimumsWithin, MayTake}
 use Rattle.laws.specs.Calls
 use Rattle.laws.specs.Calls.{Step, Absent, newcomer, with_stack, with_estimate, lasts, lasting}
 use Rattle.laws.specs.Histories.{Event, event, Run, start, then, reached, Each, Throughout, smallest, TurnsAway, Keeps}
 use Rattle.laws.specs.Guarantees.{TellsShare}
-use Rattle.laws.proofs.Puts.{put_at, put_off}
+use Rattle.laws.proofs.Puts.{put_off, put_each}
 use Rattle.laws.proofs.Contest.{Can}
-use Rattle.laws.proofs.Unique.{made}
+use Rattle.laws.proofs.Unique.{made, admissible}
 use Rattle.laws.proofs.Shares.{outbid_has_part, loser_had_more}
 use Rattle.laws.proofs.Kept.{Kept, new_kept, high_of, held_of, none_some, some_there, same_terms}
-use Rattle.laws.proofs.Runs.{ask_room, contest_of, cap_is, held_fits, yields, from_other, history_kept, run_kept, earlier_run, later_run, lands}
+use Rattle.laws.proofs.Runs.{all_sound, ask_room, contest_of, cap_is, held_fits, yields, from_other, history_kept, run_kept, earlier_run, later_run, lands}
 use Rattle.laws.proofs.Rests.{GetsNothing, turned, outbid_at}
 
 -- of things by number with one replaced, each is the new one or as it was
 put_there : {A : Type 0} (f : ℕ → A) (q : ℕ) (x : A) (c : ℕ) → ((c ≡ q) × (put f q x c ≡ x)) ⊎ ((c ≢ q) × (put f q x c ≡ f c))
-put_there f q x c =
-    elim (cases_eq c q) [
-      | inl e ↦ inl (e, subst (λ (d : ℕ). put f q x d ≡ x) (sym e) (put_at f q x))
-      | inr ne ↦ inr (ne, put_off f q x c ne)
-    ]
+put_there f q x = put_each f q x (λ c y. ((c ≡ q) × (y ≡ x)) ⊎ ((c ≢ q) × (y ≡ f c))) (inl (refl, refl)) (λ c ne. inr (ne, refl))
 
 -- from d to e the client stays, under its maximum, and loses no frame, unless it still has its share after
 record Stays (c : ℕ) (d e : Broker) : Type 0 where
   there : (x : Client) × (e.clients c ≡ Some x)
   maximum : maximum_of e c ≡ maximum_of d c
   enough : (holding d c ≤ holding e c) ⊎ (share_of e c ≤ holding e c)
-
-module _ (c : ℕ) (d e : Broker) (x : Client) (there : d.clients c ≡ Some x) where
-  as_it_was : e.clients c ≡ d.clients c → Stays c d e
-  as_it_was q = record { there = (x, q ∙ there); maximum = ap high_of q; enough = inl (omega (arith, ap held_of q)) }
-
-  -- the client is the one at q, and its record is another with the same maximum and no fewer frames
-  not_less : (q : ℕ) (z y : Client) → d.clients q ≡ Some z → c ≡ q → e.clients c ≡ Some y → y.maximum ≡ z.maximum → length z.stack ≤ length y.stack → Stays c d e
-  not_less q z y i same at g h =
-      let here : d.clients c ≡ Some z = cc in
-      record { there = (y, at); maximum = omega (arith, ap high_of at, ap high_of here, g); enough = inl (omega (arith, ap held_of at, ap held_of here)) }
-
-  -- one client is replaced: this one, or it is as it was
-  replaced : (q : ℕ) (o : Option Client) → e.clients c ≡ put d.clients q o c → (c ≡ q → e.clients c ≡ o → Stays c d e) → Stays c d e
-  replaced q o h if-it =
-      elim (put_there d.clients q o c) [ inl (same, at) ↦ if-it same (h ∙ at) | inr (ne, off) ↦ as_it_was (h ∙ off) ]
 
 module _ (m : Meaning) (l : Lawful m) (share_told : TellsShare m) where
   -- beyond the minimums, the larger fraction of shares over count ranks above
@@ -67,17 +48,11 @@ module _ (m : Meaning) (l : Lawful m) (share_told : TellsShare m) where
     fraction : (c j d i : ℕ) → Can (capped b.frames (present b)) c j → Can (capped b.frames (present b)) d i → minimum_of (present b) c < j → minimum_of (present b) d < i →
         shares_of b d * j < shares_of b c * i → above m (bid_of (present b) c j) (bid_of (present b) d i) ≡ true
     fraction c j d i p q =
+        let can_make = made m l b.frames k.small (present b) (all_sound m l b k) in
         fraction_ranks (present b) c j d i (can_make c j p) (can_make d i q)
-      where
-        can_make : (c j : ℕ) → Can (capped b.frames (present b)) c j → Made (bid_of (present b) c j)
-        can_make = made m l b.frames k.small (present b) (λ c t e. (k.each_fits c).sound t e)
 
     some_shares : (c : ℕ) → 1 ≤ capped b.frames (present b) c → 1 ≤ shares_of b c
-    some_shares c h = go (b.clients c) refl
-      where
-        go : (o : Option Client) → b.clients c ≡ o → 1 ≤ shares_of b c
-        go (Some x) e = omega (arith, ap (λ o. (terms (terms_of o)).shares) e, ((k.each_fits c).sound _ (ap terms_of e)).some_shares)
-        go None e = absurd (omega (arith, cap_is m l b k c, ap high_of e))
+    some_shares c h = (admissible m l b.frames k.small (present b) (all_sound m l b k) c h).some_shares
 
     full : b.free ≡ [] → total (holding b) ≡ b.frames
     full e = omega (arith, k.all, ap length e)
@@ -105,47 +80,61 @@ module _ (m : Meaning) (l : Lawful m) (share_told : TellsShare m) where
         below p (holding b p) (loser_had_more (contest_of m l b k) (holding b) (held_fits m l b k) (shares_of b) b.frames (full e) fraction w some_shares
         c p (omega (arith, cap_is m l b k c)) (yields m l b k c p t))
 
-  module _ (c : ℕ) (d : Broker) (k : Kept d) (w : MinimumsWithin d) (x : Client) (there : d.clients c ≡ Some x) where
-    step_stays : (y : Call) (a : Result Answer Refusal) (e : Broker) → Keeps c (event y a e) → Step m d y a e → Stays c d e
-    step_stays y a e n (Calls.refused r) = as_it_was c d e x there refl
-    step_stays y a e n (Calls.started clear) = as_it_was c d e x there refl
-    step_stays y a e n (Calls.admitted {a = q} clear) =
-        replaced c d e x there q.client (Some (newcomer q)) refl
-        (λ same at. absurd (clear.1.1.1.1.1.0 (λ none. none_some none (subst (λ (i : ℕ). d.clients i ≡ Some x) same there))))
-    step_stays y a e n (Calls.granted_free {c = q} {f = f} {x = z} clear i j) =
-        let o = with_stack z (f ∷ z.stack) in
-        replaced c d e x there q (Some o) refl (λ same at. not_less c d e x there q z o i same at refl (omega arith))
-    step_stays y a e n (Calls.granted_from {c = q} {p = p} {f = f} {fs = fs} {x = z} {y = u} clear i j t v s) =
-        elim (put_there (put d.clients p (Some (with_stack u fs))) q (Some (with_stack z (f ∷ z.stack))) c) [
-          | inl (same, at) ↦ not_less c d e x there q z (with_stack z (f ∷ z.stack)) i same at refl (omega arith)
-          | inr (ne, off) ↦ elim (put_there d.clients p (Some (with_stack u fs)) c) [
-            | inl (same, at) ↦ loses same (off ∙ at)
-            | inr (other, here) ↦ as_it_was c d e x there (off ∙ here)
+  module _ (c : ℕ) (d : Broker) (x : Client) (there : d.clients c ≡ Some x) where
+    as_it_was : {e : Broker} → e.clients c ≡ d.clients c → Stays c d e
+    as_it_was q = record { there = (x, q ∙ there); maximum = ap high_of q; enough = inl (omega (arith, ap held_of q)) }
+
+    -- the client is the one at q, and its record is another with the same maximum and no fewer frames
+    not_less : {e : Broker} (q : ℕ) (z y : Client) → d.clients q ≡ Some z → c ≡ q → e.clients c ≡ Some y → y.maximum ≡ z.maximum → length z.stack ≤ length y.stack → Stays c d e
+    not_less q z y i same at g h =
+        let here : d.clients c ≡ Some z = cc in
+        record { there = (y, at); maximum = omega (arith, ap high_of at, ap high_of here, g); enough = inl (omega (arith, ap held_of at, ap held_of here)) }
+
+    -- one client is replaced: this one, or it is as it was
+    replaced : {e : Broker} (q : ℕ) (o : Option Client) → e.clients c ≡ put d.clients q o c → (c ≡ q → e.clients c ≡ o → Stays c d e) → Stays c d e
+    replaced q o h if-it =
+        elim (put_there d.clients q o c) [ inl (same, at) ↦ if-it same (h ∙ at) | inr (ne, off) ↦ as_it_was (h ∙ off) ]
+
+    module _ (k : Kept d) (w : MinimumsWithin d) where
+      step_stays : (y : Call) (a : Result Answer Refusal) (e : Broker) → Keeps c (event y a e) → Step m d y a e → Stays c d e
+      step_stays y a e n (Calls.admitted {a = q} clear) =
+          replaced q.client (Some (newcomer q)) refl
+          (λ same at. absurd (clear.1.1.1.1.1.0 (λ none. none_some none (subst (λ (i : ℕ). d.clients i ≡ Some x) same there))))
+      step_stays y a e n (Calls.granted_free {c = q} {f = f} {x = z} clear i j) =
+          let o = with_stack z (f ∷ z.stack) in
+          replaced q (Some o) refl (λ same at. not_less q z o i same at refl (omega arith))
+      step_stays y a e n (Calls.granted_from {c = q} {p = p} {f = f} {fs = fs} {x = z} {y = u} clear i j t v s) =
+          elim (put_there (put d.clients p (Some (with_stack u fs))) q (Some (with_stack z (f ∷ z.stack))) c) [
+            | inl (same, at) ↦ not_less q z (with_stack z (f ∷ z.stack)) i same at refl (omega arith)
+            | inr (ne, off) ↦ elim (put_there d.clients p (Some (with_stack u fs)) c) [
+              | inl (same, at) ↦ loses same (off ∙ at)
+              | inr (other, here) ↦ as_it_was (off ∙ here)
+            ]
           ]
-        ]
-      where
-        loses : c ≡ p → e.clients c ≡ Some (with_stack u fs) → Stays c d e
-        loses same at =
-            let u_is : u ≡ x = cc in
-            let room = ask_room m d q clear in
-            let one = put_off d.clients p (Some (with_stack u fs)) q (λ r. from_other m l d k q p room t (sym r)) in
-            let terms_are : present e ≡ present d = same_terms (put d.clients p (Some (with_stack u fs))) q z (f ∷ z.stack) (one ∙ i) ∙ same_terms d.clients p u fs v in
-            let share_is : share_of e c ≡ share_of d c = ap (λ (cs : Clients). d.frames * (terms (cs c)).shares / total (λ r. (terms (cs r)).shares)) terms_are in
-            let more = subst (λ (r : ℕ). share_of d r < holding d r) (sym same) (lost_more d k w q p j room t) in
-            record {
-              there = (with_stack u fs, at);
-              maximum = omega (arith, ap high_of at, ap high_of there, ap (λ (u : Client). u.maximum) u_is);
-              enough = inr (omega (arith, share_is, more, ap held_of at, ap held_of there, ap (λ (u : Client). length u.stack) u_is, ap length s));
-            }
-    step_stays y a e n (Calls.delivered clear) = as_it_was c d e x there refl
-    step_stays y a e n (Calls.handed_back {c = q} {fs = fs} {x = z} clear i j) =
-        replaced c d e x there q (Some (with_stack z fs)) refl (λ same at. absurd ((n tt).0 (ap HandBack (sym same))))
-    step_stays y a e n (Calls.left {c = q} {x = z} clear i) = replaced c d e x there q None refl (λ same at. absurd ((n tt).1 (ap Leave (sym same))))
-    step_stays y a e n (Calls.estimated {c = q} {e = v} {x = z} clear i) =
-        let o = with_estimate z (Some v) in
-        replaced c d e x there q (Some o) refl (λ same at. not_less c d e x there q z o i same at refl (omega arith))
-    step_stays y a e n (Calls.clocked {t = t} clear) =
-        not_less c d e x there c x (with_estimate x (lasts t x.estimate)) there refl (ap (lasting t) there) refl (omega arith)
+        where
+          loses : c ≡ p → e.clients c ≡ Some (with_stack u fs) → Stays c d e
+          loses same at =
+              let u_is : u ≡ x = cc in
+              let room = ask_room m d q clear in
+              let one = put_off d.clients p (Some (with_stack u fs)) q (λ r. from_other m l d k q p room t (sym r)) in
+              let terms_are : present e ≡ present d = same_terms (put d.clients p (Some (with_stack u fs))) q z (f ∷ z.stack) (one ∙ i) ∙ same_terms d.clients p u fs v in
+              let share_is : share_of e c ≡ share_of d c = ap (λ (cs : Clients). d.frames * (terms (cs c)).shares / total (λ r. (terms (cs r)).shares)) terms_are in
+              let more = subst (λ (r : ℕ). share_of d r < holding d r) (sym same) (lost_more d k w q p j room t) in
+              record {
+                there = (with_stack u fs, at);
+                maximum = omega (arith, ap high_of at, ap high_of there, ap (λ (u : Client). u.maximum) u_is);
+                enough = inr (omega (arith, share_is, more, ap held_of at, ap held_of there, ap (λ (u : Client). length u.stack) u_is, ap length s));
+              }
+      step_stays y a e n (Calls.handed_back {c = q} {fs = fs} {x = z} clear i j) =
+          replaced q (Some (with_stack z fs)) refl (λ same at. absurd ((n tt).0 (ap HandBack (sym same))))
+      step_stays y a e n (Calls.left {c = q} {x = z} clear i) = replaced q None refl (λ same at. absurd ((n tt).1 (ap Leave (sym same))))
+      step_stays y a e n (Calls.estimated {c = q} {e = v} {x = z} clear i) =
+          let o = with_estimate z (Some v) in
+          replaced q (Some o) refl (λ same at. not_less q z o i same at refl (omega arith))
+      step_stays y a e n (Calls.clocked {t = t} clear) =
+          not_less c x (with_estimate x (lasts t x.estimate)) there refl (ap (lasting t) there) refl (omega arith)
+      -- a refusal, a start and a delivery leave all clients as they were
+      step_stays y a e n s = as_it_was refl
 
   -- what holds throughout holds at the end
   at_end : (P : Broker → Type 0) (b : Broker) (h : List Event) (d : Broker) → Run m b h d → Throughout P b h → P d
@@ -162,7 +151,7 @@ module _ (m : Meaning) (l : Lawful m) (share_told : TellsShare m) where
     since_then since now start n w x there h = ((x, there), h)
     since_then since now (then {x = y} {a = a} {d = d} {h = i} r s) (n, ns) (w, ws) x there h =
         let ((z, here), g) = since_then i d r ns ws x there h in
-        let q = step_stays c d (run_kept m l b i d k r) (at_end MinimumsWithin b i d r ws) z here y a now n s in
+        let q = step_stays c d z here (run_kept m l b i d k r) (at_end MinimumsWithin b i d r ws) y a now n s in
         (q.there, omega (arith, g, q.maximum, q.enough))
 
   -- after an ask that turns the client away it is there, and has enough
