@@ -51,8 +51,6 @@ module _ (m : Meaning) (l : Lawful m) (b : Broker) (kb : Kept b) where
   climb_step : (k : List Event) (d : Broker) (x : Call) (a : Result Answer Refusal) (e : Broker) → (IsAccepted a → AskOrDelivery x) → Climb k d → Step m d x a e → Climb (event x a e ∷ k) e
   unfolding grants
   climb_step k d x a e p w (Calls.refused r) = record { same = w.same; peak = w.peak; peaks = w.peaks; sum = omega (arith, w.sum) }
-  climb_step k d x a e p w (Calls.started clear) = absurd (p tt)
-  climb_step k d x a e p w (Calls.admitted clear) = absurd (p tt)
   climb_step k d x a e p w (Calls.granted_free {c = c} {f = f} {fs = fs} {x = y} clear g h) =
       let o = Some (with_stack y (f ∷ y.stack)) in
       let cs = d.clients in
@@ -82,10 +80,8 @@ module _ (m : Meaning) (l : Lawful m) (b : Broker) (kb : Kept b) where
         sum = omega (arith, w.sum, raise_sum c w.peak (K.numbered c (omega (arith, has_room))));
       }
   climb_step k d x a e p w (Calls.delivered clear) = record { same = w.same; peak = w.peak; peaks = w.peaks; sum = omega (arith, w.sum) }
-  climb_step k d x a e p w (Calls.handed_back clear g h) = absurd (p tt)
-  climb_step k d x a e p w (Calls.left clear g) = absurd (p tt)
-  climb_step k d x a e p w (Calls.estimated clear g) = absurd (p tt)
-  climb_step k d x a e p w (Calls.clocked clear) = absurd (p tt)
+  -- no other call is accepted
+  climb_step k d x a e p w s = absurd (p tt)
 
   climb : (k : List Event) (d : Broker) → Run m b k d → AcceptsOnlyAsks k → Climb k d
   unfolding grants

@@ -1,5 +1,5 @@
 -- A call has one answer, and leaves one broker.
-use Rattle.std.proofs.Common.{◌≡◌, ℕ, ◌⊎◌, List, [], ◌∷◌, sym, refl, ◌∙◌, inl, inr, arith, Err, Result}
+use Rattle.std.proofs.Common.{◌≡◌, ℕ, ◌⊎◌, List, [], ◌∷◌, sym, refl, ◌∙◌, inl, inr, Err, Result}
 use Rattle.std.proofs.lemmas.Bool.{cases_eq, both_ways}
 use Rattle.rules.specs.declared.call.Call.{Call}
 use Rattle.rules.specs.declared.call.Answer.{Answer}
@@ -40,32 +40,22 @@ abbrev Same : Result Answer Refusal → Result Answer Refusal → Broker → Bro
 Same a c d e = (a ≡ c) × (d ≡ e)
 
 module _ (m : Meaning) (b : Broker) where
-  refused_clear : (x : Call) (r : Refusal) → RefusedBy m b x r → IsClear m b x → ⊥
-  refused_clear x r q clear = first_or_clear (entries m b x) r q clear
-
   accepted_one : (x : Call) (a c : Result Answer Refusal) (d e : Broker) → IsClear m b x → Step m b x a d → Step m b x c e → Same a c d e
-  accepted_one x a c d e clear (Calls.refused {r = r} q) t = absurd (refused_clear x r q clear)
-  accepted_one x a c d e clear (Calls.started s) (Calls.refused {r = r} q) = absurd (refused_clear x r q clear)
   accepted_one x a c d e clear (Calls.started s) (Calls.started t) = (refl, refl)
-  accepted_one x a c d e clear (Calls.admitted s) (Calls.refused {r = r} q) = absurd (refused_clear x r q clear)
   accepted_one x a c d e clear (Calls.admitted s) (Calls.admitted t) = (refl, refl)
-  accepted_one x a c d e clear (Calls.granted_free s g h) (Calls.refused {r = r} q) = absurd (refused_clear x r q clear)
   accepted_one x a c d e clear (Calls.granted_free s g h) (Calls.granted_free t i j) = (cc, cc)
-  accepted_one x a c d e clear (Calls.granted_free s g h) (Calls.granted_from t i j u v w) = absurd (let z : ◌≡◌ {A = ℕ} 0 1 = cc in omega arith)
-  accepted_one x a c d e clear (Calls.granted_from s g h k l n) (Calls.refused {r = r} q) = absurd (refused_clear x r q clear)
-  accepted_one x a c d e clear (Calls.granted_from s g h k l n) (Calls.granted_free t i j) = absurd (let z : ◌≡◌ {A = ℕ} 0 1 = cc in omega arith)
+  accepted_one x a c d e clear (Calls.granted_free s g h) (Calls.granted_from t i j u v w) = absurd (cc)
+  accepted_one x a c d e clear (Calls.granted_from s g h k l n) (Calls.granted_free t i j) = absurd (cc)
   accepted_one x a c d e clear (Calls.granted_from {p = p} s g h k l n) (Calls.granted_from {p = q} t i j u v w) =
       let o = one_payer m b p q k.0 u.0 in (cc, cc)
-  accepted_one x a c d e clear (Calls.delivered s) (Calls.refused {r = r} q) = absurd (refused_clear x r q clear)
   accepted_one x a c d e clear (Calls.delivered s) (Calls.delivered t) = (refl, refl)
-  accepted_one x a c d e clear (Calls.handed_back s g h) (Calls.refused {r = r} q) = absurd (refused_clear x r q clear)
   accepted_one x a c d e clear (Calls.handed_back s g h) (Calls.handed_back t i j) = (cc, cc)
-  accepted_one x a c d e clear (Calls.left s g) (Calls.refused {r = r} q) = absurd (refused_clear x r q clear)
   accepted_one x a c d e clear (Calls.left s g) (Calls.left t i) = (cc, cc)
-  accepted_one x a c d e clear (Calls.estimated s g) (Calls.refused {r = r} q) = absurd (refused_clear x r q clear)
   accepted_one x a c d e clear (Calls.estimated s g) (Calls.estimated t i) = (cc, cc)
-  accepted_one x a c d e clear (Calls.clocked s) (Calls.refused {r = r} q) = absurd (refused_clear x r q clear)
   accepted_one x a c d e clear (Calls.clocked s) (Calls.clocked t) = (refl, refl)
+  -- neither is refused
+  accepted_one x a c d e clear (Calls.refused {r = r} q) t = absurd (first_or_clear (entries m b x) r q clear)
+  accepted_one x a c d e clear s (Calls.refused {r = r} q) = absurd (first_or_clear (entries m b x) r q clear)
 
   -- a step is a refusal that changes nothing, or the call is clear
   abbrev pub Kind : Call → Result Answer Refusal → Broker → Type 0

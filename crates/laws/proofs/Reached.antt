@@ -73,8 +73,7 @@ refused_only (e ∷ h) n = (λ a. absurd (n.0 a), refused_only h n.1)
 -- an ask that meets no refusal is granted
 clear_grants : (m : Meaning) (b : Broker) (c : ℕ) (a : Result Answer Refusal) (d : Broker) → IsClear m b (Ask c) → Step m b (Ask c) a d → grant a ≡ 1
 clear_grants m b c a d clear (Calls.refused {r = r} q) = absurd (first_or_clear (entries m b (Ask c)) r q clear)
-clear_grants m b c a d clear (Calls.granted_free clear-too e g) = refl
-clear_grants m b c a d clear (Calls.granted_from clear-too e g t i h) = refl
+clear_grants m b c a d clear s = refl
 
 module _ (m : Meaning) (l : Lawful m) where
   -- the clients up to n have asked b and were refused
@@ -173,13 +172,9 @@ module _ (m : Meaning) (l : Lawful m) where
         admitted : (c : ℕ) (x : Client) → e.clients c ≡ Some x → Numbered c
         admitted c x i = numbered e.frames c (e.clients c) x ((history_kept m l (t ++ h) e whole).each_fits c) i
 
-    -- with n grants left at most
-    reach : (n : ℕ) (s : List Event) (d : Broker) → Run m b s d → AcceptsOnlyAsks s → room b ≤ grants s + n → Rests
-    reach zero s d q only enough =
-        elim (round s d q only) [
-          | inl x ↦ x
-          | inr (t, e, there, only_there, more) ↦ absurd (omega (arith, stretch_bounded m l b (history_kept m l h b r) t e there only_there))
-        ]
+    -- with fewer than n grants left
+    reach : (n : ℕ) (s : List Event) (d : Broker) → Run m b s d → AcceptsOnlyAsks s → room b < grants s + n → Rests
+    reach zero s d q only enough = absurd (omega (arith, stretch_bounded m l b (history_kept m l h b r) s d q only))
     reach (suc n) s d q only enough =
         elim (round s d q only) [ inl x ↦ x | inr (t, e, there, only_there, more) ↦ reach n t e there only_there (omega arith) ]
 
@@ -190,5 +185,5 @@ rest_is_reached =
           let bound = asks_are_bounded m l (more ++ (stretch ++ earlier)) b r [] (more ++ stretch) earlier (sym (append_assoc more stretch earlier)) a in
           omega (arith, bound, grants_append more stretch);
       then_rest = then_rest;
-      within_reach = λ m l h b r. reach m l h b r (room b) [] b start tt (omega arith);
+      within_reach = λ m l h b r. reach m l h b r (room b + 1) [] b start tt (omega arith);
     }
