@@ -1,7 +1,8 @@
 -- Every call on a broker that a history leads to is answered: refused by the first entry that it meets, else accepted.
-use Rattle.std.proofs.Common.{◌≡◌, ℕ, ◌+◌, ◌<◌, ◌≤◌, true, ◌⊎◌, List, [], ◌∷◌, length, Some, None, Option, refl, ap, ◌∙◌, subst, inl, inr, arith, Err, Result}
-use native.Mathlib.Decide.{ℕ_discrete, dec_le, dec_lt}
-use Rattle.std.proofs.lemmas.Bool.{cases_Bool, both_ways}
+use Rattle.std.proofs.Common.{◌≡◌, ℕ, ◌+◌, ◌<◌, true, ◌⊎◌, List, [], ◌∷◌, length, Some, None, Option, refl, ap, ◌∙◌, subst, inl, inr, arith, Err, Result}
+use mathlib.Core.Bool.{Bool-discrete}
+use mathlib.Core.Logic.Dec
+use native.Mathlib.Decide.{ℕ_discrete, dec_le, dec_lt, map_dec}
 use Rattle.rules.specs.declared.call.SlipNumbers.{SlipNumbers}
 use Rattle.rules.specs.declared.call.Call.{Call}
 use Rattle.rules.specs.declared.call.Call.TheVariants.{Start, Admit, Ask, Deliver, HandBack, Leave, SetEstimate, SetClock}
@@ -12,12 +13,12 @@ use Rattle.rules.specs.Rank.{above}
 use Rattle.rules.specs.Refusals.{Entry, First, Clear, Outside}
 use Rattle.laws.specs.ByNumber.{total}
 use Rattle.laws.specs.Division.{minimum_of, bid_of}
-use Rattle.laws.specs.Broker.{Broker, holding, maximum_of, present, MayTake, IsOutbid, LowestPayer}
+use Rattle.laws.specs.Broker.{Broker, holding, maximum_of, present, MayTake, IsOutbid}
 use Rattle.laws.specs.Calls
 use Rattle.laws.specs.Calls.{Step, IsClear, entries}
 use Rattle.laws.specs.Questions.{LowestIs}
 use Rattle.laws.specs.Laws.{EveryCallIsAnswered, LowestPayerIsFound}
-use Rattle.laws.proofs.Sums.{In, below_or_not}
+use Rattle.laws.proofs.Sums.{below_or_not}
 use Rattle.laws.proofs.Payer.{payer}
 use Rattle.laws.proofs.One.{one_payer}
 use Rattle.laws.proofs.Kept.{Kept, held_of, none_some, some_there}
@@ -38,10 +39,6 @@ dec_or (yes a) e = yes (inl a)
 dec_or (no a) (yes b) = yes (inr b)
 dec_or (no a) (no b) = no (λ u. elim u [ inl x ↦ a x | inr y ↦ b y ])
 
-dec_not : {A : Type 0} → Dec A → Dec (A → ⊥)
-dec_not (yes a) = no (λ f. f a)
-dec_not (no f) = yes f
-
 dec_none : {A : Type 0} (o : Option A) → Dec (o ≡ None)
 dec_none (Some a) = no (λ e. none_some e refl)
 dec_none None = yes refl
@@ -50,15 +47,10 @@ dec_outside : (l h n : ℕ) → Dec (Outside l h n)
 dec_outside l h n = dec_or (dec_lt n l) (dec_lt h n)
 
 dec_slip : (s t : SlipNumbers) → Dec (s ≡ t)
-dec_slip s t = go (ℕ_discrete s.unit t.unit) (ℕ_discrete s.client t.client) (ℕ_discrete s.frame t.frame) (ℕ_discrete s.former t.former) (ℕ_discrete s.asks t.asks)
-  where
-    go : Dec (s.unit ≡ t.unit) → Dec (s.client ≡ t.client) → Dec (s.frame ≡ t.frame) → Dec (s.former ≡ t.former) → Dec (s.asks ≡ t.asks) → Dec (s ≡ t)
-    go (yes a) (yes b) (yes c) (yes d) (yes e) = yes (λ i. record { unit = a i; client = b i; frame = c i; former = d i; asks = e i })
-    go (no f) b c d e = no (λ p. f (ap (λ q. q.unit) p))
-    go (yes a) (no f) c d e = no (λ p. f (ap (λ q. q.client) p))
-    go (yes a) (yes b) (no f) d e = no (λ p. f (ap (λ q. q.frame) p))
-    go (yes a) (yes b) (yes c) (no f) e = no (λ p. f (ap (λ q. q.former) p))
-    go (yes a) (yes b) (yes c) (yes d) (no f) = no (λ p. f (ap (λ q. q.asks) p))
+dec_slip s t =
+    map_dec (λ e i. record { unit = e.0 i; client = e.1.0 i; frame = e.1.1.0 i; former = e.1.1.1.0 i; asks = e.1.1.1.1 i })
+    (λ e. (ap (λ q. q.unit) e, (ap (λ q. q.client) e, (ap (λ q. q.frame) e, (ap (λ q. q.former) e, ap (λ q. q.asks) e)))))
+    (Dec.and (ℕ_discrete s.unit t.unit) (Dec.and (ℕ_discrete s.client t.client) (Dec.and (ℕ_discrete s.frame t.frame) (Dec.and (ℕ_discrete s.former t.former) (ℕ_discrete s.asks t.asks)))))
 
 dec_this : (o : Option SlipNumbers) (s : SlipNumbers) → Dec (o ≡ Some s)
 dec_this (Some t) s = elim (dec_slip t s) [ yes e ↦ yes (ap Some e) | no f ↦ no (λ p. f (cc)) ]
@@ -69,6 +61,13 @@ top_of [] h = absurd (h refl)
 top_of (f ∷ gs) h = (f, gs, refl)
 
 module _ (m : Meaning) (l : Lawful m) (b : Broker) (k : Kept b) where
+  some_lowest : (p : Option ℕ) × LowestIs m b p
+  some_lowest =
+      elim (below_or_not 256 (minimum_of (present b)) (holding b)) [
+        | inl (d, i, g) ↦ let (p, y) = payer (contest_of m l b k) (holding b) (held_fits m l b k) d g in (Some p, record { beyond = y.beyond; lowest = y.lowest })
+        | inr a ↦ (None, λ c g. omega (arith, a c ((contest_of m l b k).numbered c (omega (arith, g, held_fits m l b k c))), g))
+      ]
+
   -- c is below its minimum, or outbids p
   abbrev Beats : ℕ → ℕ → Type 0
   Beats c p = (holding b c < minimum_of (present b) c) ⊎ (above m (bid_of (present b) c (holding b c + 1)) (bid_of (present b) p (holding b p)) ≡ true)
@@ -78,31 +77,25 @@ module _ (m : Meaning) (l : Lawful m) (b : Broker) (k : Kept b) where
   Taking c = ((p : ℕ) × MayTake m b c p) ⊎ ((p : ℕ) → MayTake m b c p → ⊥)
 
   taking : (c : ℕ) → Taking c
-  taking c = go (below_or_not 256 (minimum_of (present b)) (holding b))
+  taking c = go some_lowest.0 some_lowest.1
     where
       beats : (p : ℕ) → Dec (Beats c p)
-      beats p = dec_or (dec_lt (holding b c) (minimum_of (present b) c)) (elim (cases_Bool (above m (bid_of (present b) c (holding b c + 1)) (bid_of (present b) p (holding b p)))) [ inl e ↦ yes e | inr e ↦ no (λ f. both_ways _ e f) ])
+      beats p = dec_or (dec_lt (holding b c) (minimum_of (present b) c)) (Bool-discrete _ true)
 
-      try : (p : ℕ) → LowestPayer m b p → Dec (Beats c p) → Taking c
-      try p low (yes h) = inl (p, (low, h))
-      try p low (no f) = inr (λ q t. f (subst (λ (y : ℕ). Beats c y) (one_payer m b q p t.0 low) t.1))
-
-      go : ((d : ℕ) × In 256 d × (minimum_of (present b) d < holding b d)) ⊎ ((d : ℕ) → In 256 d → holding b d ≤ minimum_of (present b) d) → Taking c
-      go (inl (d, i, g)) =
-          let (p, y) = payer (contest_of m l b k) (holding b) (held_fits m l b k) d g in
-          try p (record { beyond = y.beyond; lowest = y.lowest }) (beats p)
-      go (inr a) = inr (λ p t. omega (arith, a p ((contest_of m l b k).numbered p (omega (arith, t.0.beyond, held_fits m l b k p))), t.0.beyond))
+      go : (o : Option ℕ) → LowestIs m b o → Taking c
+      go (Some p) low = elim (beats p) [ yes h ↦ inl (p, (low, h)) | no f ↦ inr (λ q t. f (subst (Beats c) (one_payer m b q p t.0 low) t.1)) ]
+      go None none = inr (λ p t. none p t.0.beyond)
 
   dec_outbid : (c : ℕ) → Dec (IsOutbid m b c)
   dec_outbid c = go b.free refl (taking c)
     where
       go : (fs : List ℕ) → b.free ≡ fs → Taking c → Dec (IsOutbid m b c)
-      go (f ∷ fs) e t = no (λ o. let q = o.0 in let z : ◌≡◌ {A = ℕ} 0 1 = cc in omega arith)
+      go (f ∷ fs) e t = no (λ o. let none = o.0 in cc)
       go [] e (inl (p, t)) = no (λ o. o.1 p t)
       go [] e (inr f) = yes (e, f)
 
   closed : Dec (Calls.Open b)
-  closed = dec_not (dec_none b.passage)
+  closed = Dec.not (dec_none b.passage)
 
   absent : (c : ℕ) → Dec (Calls.Absent b c)
   absent c = dec_none (b.clients c)
@@ -110,9 +103,9 @@ module _ (m : Meaning) (l : Lawful m) (b : Broker) (k : Kept b) where
   decided : (x : Call) → Decided (entries m b x)
   decided (Start u F) = (dec_or (dec_outside 1 4_096 F) (dec_outside 1 999 u), (dec_le 1 b.frames, tt))
   decided (Admit a) =
-      (dec_outside 1 256 a.client, (dec_outside 1 1_000_000 a.shares, (dec_lt 9 a.class, (dec_or (ℕ_discrete a.maximum 0) (dec_lt a.maximum a.minimum), (closed, (dec_not (absent a.client), (dec_lt b.frames a.maximum, (dec_lt b.frames (total (minimum_of (present b)) + a.minimum), tt))))))))
+      (dec_outside 1 256 a.client, (dec_outside 1 1_000_000 a.shares, (dec_lt 9 a.class, (dec_or (ℕ_discrete a.maximum 0) (dec_lt a.maximum a.minimum), (closed, (Dec.not (absent a.client), (dec_lt b.frames a.maximum, (dec_lt b.frames (total (minimum_of (present b)) + a.minimum), tt))))))))
   decided (Ask c) = (dec_outside 1 256 c, (closed, (absent c, (dec_le (maximum_of b c) (holding b c), (dec_outbid c, tt)))))
-  decided (Deliver s) = (dec_not (dec_this b.passage s), tt)
+  decided (Deliver s) = (Dec.not (dec_this b.passage s), tt)
   decided (HandBack c) = (dec_outside 1 256 c, (closed, (absent c, (ℕ_discrete (holding b c) _, tt))))
   decided (Leave c) = (dec_outside 1 256 c, (closed, (absent c, tt)))
   decided (SetEstimate c e) = (dec_outside 1 256 c, (closed, (absent c, (dec_lt b.frames e.active, (dec_le e.end b.tick, tt)))))
@@ -149,20 +142,11 @@ module _ (m : Meaning) (l : Lawful m) (b : Broker) (k : Kept b) where
   pub answers : (x : Call) → (a : Result Answer Refusal) × (d : Broker) × Step m b x a d
   answers x = elim (settle (entries m b x) (decided x)) [ inl (r, f) ↦ (Err r, b, Calls.refused f) | inr clear ↦ accepted x clear ]
 
--- the lowest payer, or none
-module _ (m : Meaning) where
-  one_lowest : (b : Broker) (p q : Option ℕ) → LowestIs m b p → LowestIs m b q → p ≡ q
-  one_lowest b (Some p) (Some q) u v = ap Some (one_payer m b p q u v)
-  one_lowest b (Some p) None u v = absurd (v p u.beyond)
-  one_lowest b None (Some q) u v = absurd (u q v.beyond)
-  one_lowest b None None u v = refl
-
-  some_lowest : (l : Lawful m) (b : Broker) → Kept b → (p : Option ℕ) × LowestIs m b p
-  some_lowest l b k =
-      elim (below_or_not 256 (minimum_of (present b)) (holding b)) [
-        | inl (d, i, g) ↦ let (p, y) = payer (contest_of m l b k) (holding b) (held_fits m l b k) d g in (Some p, record { beyond = y.beyond; lowest = y.lowest })
-        | inr a ↦ (None, λ c g. omega (arith, a c ((contest_of m l b k).numbered c (omega (arith, g, held_fits m l b k c))), g))
-      ]
+one_lowest : (m : Meaning) (b : Broker) (p q : Option ℕ) → LowestIs m b p → LowestIs m b q → p ≡ q
+one_lowest m b (Some p) (Some q) u v = ap Some (one_payer m b p q u v)
+one_lowest m b (Some p) None u v = absurd (v p u.beyond)
+one_lowest m b None (Some q) u v = absurd (u q v.beyond)
+one_lowest m b None None u v = refl
 
 pub lowest_payer_is_found : LowestPayerIsFound
 lowest_payer_is_found = record { one = one_lowest; found = λ m l h b r. some_lowest m l b (history_kept m l h b r) }
