@@ -1,12 +1,11 @@
 -- Every history keeps the three guarantees, and so does each of several brokers alone.
-use Rattle.std.proofs.Common.{◌≡◌, ℕ, eqb, List, ◌∷◌, sym, subst, subst₂, inl, inr}
-use Rattle.std.proofs.lemmas.Bool.{cases_eq, eq-eqb, ne_eqb, cond-true, cond-false}
+use Rattle.std.proofs.Common.{ℕ, List, ◌∷◌, sym, refl, subst, inl, inr}
+use Rattle.std.proofs.lemmas.Bool.{cases_eq, eq-eqb, ne_eqb}
 use Rattle.rules.specs.Offers.{Meaning}
 use Rattle.laws.specs.ByNumber.{put}
-use Rattle.laws.specs.Broker.{Broker, new_broker}
-use Rattle.laws.specs.Calls.{Step}
-use Rattle.laws.specs.Histories.{Event, event, Run, start, then}
-use Rattle.laws.specs.Families.{Brokers, Tagged, FamilyRun, begin, next, own}
+use Rattle.laws.specs.Broker.{new_broker}
+use Rattle.laws.specs.Histories.{event, Run, start, then}
+use Rattle.laws.specs.Families.{Brokers, Tagged, tagged, FamilyRun, begin, next, own}
 use Rattle.laws.specs.Laws.{HistoriesKeepGuarantees, FamiliesKeepGuarantees}
 use Rattle.laws.proofs.Puts.{put_at, put_off}
 use Rattle.laws.proofs.Asks.{asks_are_bounded}
@@ -28,14 +27,9 @@ own_run ms bs h ds begin i = start
 own_run ms bs h ds (next {i = j} {x = x} {a = a} {e = e} {ds = cs} {h = k} r s) i =
     elim (cases_eq j i) [
       | inl same ↦
-          let at = subst (λ (n : ℕ). put cs j e n ≡ e) same (put_at cs j e) in
-          let it = cond-true (eqb j i) (event x a e ∷ own i k) (own i k) (eq-eqb j i same) in
-          let here = subst (λ (n : ℕ). Step (ms n) (cs n) x a e) same s in
-          subst₂ (λ (l : List Event) (d : Broker). Run (ms i) (bs i) l d) (sym it) (sym at) (then (own_run ms bs k cs r i) here)
-      | inr other ↦
-          let off = put_off cs j e i (λ q. other (sym q)) in
-          let it = cond-false (eqb j i) (event x a e ∷ own i k) (own i k) (ne_eqb j i other) in
-          subst₂ (λ (l : List Event) (d : Broker). Run (ms i) (bs i) l d) (sym it) (sym off) (own_run ms bs k cs r i)
+          let here = then (own_run ms bs k cs r j) s in
+          subst (λ (n : ℕ). Run (ms n) (bs n) (own n (tagged j (event x a e) ∷ k)) (put cs j e n)) same (rw (eq-eqb j j refl, put_at) here)
+      | inr other ↦ rw (ne_eqb j i other, put_off cs j e i (λ q. other (sym q))) (own_run ms bs k cs r i)
     ]
 
 pub families_keep_guarantees : FamiliesKeepGuarantees

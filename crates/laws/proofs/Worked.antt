@@ -1,8 +1,8 @@
 -- The worked examples, by computing.
-use Rattle.std.proofs.Common.{◌≡◌, ℕ, zero, suc, ◌+◌, ◌*◌, ◌<◌, ◌≤◌, min, Bool, true, false, cond, eqb, ltb, leb, ◌≢◌, ◌⊎◌, List, [], ◌∷◌, length, None, codes, sym, refl, ap, ◌∙◌, subst, inl, inr, arith}
+use Rattle.std.proofs.Common.{◌≡◌, ℕ, zero, suc, ◌+◌, ◌*◌, ◌<◌, ◌≤◌, min, Bool, true, false, cond, ◌&&◌, eqb, ltb, leb, ◌≢◌, [], ◌∷◌, length, None, codes, sym, refl, ap, subst, inl, inr, arith}
 use Rattle.std.proofs.lemmas.Fmt.{decimal_digit}
-use Rattle.std.proofs.lemmas.Bool.{cases_lt, cases_eq, both_ways}
-use Rattle.std.proofs.lemmas.Bool.Decides.{nat_tests}
+use Rattle.std.proofs.lemmas.Bool.{cases_lt}
+use Rattle.std.proofs.lemmas.Bool.Decides.{nat_tests, Decides-below_and}
 use Rattle.rules.specs.Offers.{Meaning}
 use Rattle.rules.specs.Prices.{share}
 use Rattle.rules.specs.Rank.{above, ranks}
@@ -19,17 +19,11 @@ use Rattle.laws.specs.Cases.{three, trio, seven, HasFault, WorkedExamples}
 -- a test of the numbers below n
 every : ℕ → (ℕ → Bool) → Bool
 every zero p = true
-every (suc n) p = cond (p n) (every n p) false
+every (suc n) p = p n && every n p
 
 every_tells : (n : ℕ) (p : ℕ → Bool) → every n p ≡ true → (k : ℕ) → k < n → p k ≡ true
 unfolding every
-every_tells zero p h k l = absurd (omega arith)
-every_tells (suc n) p h k l = go (p n) refl h (cases_eq k n) (λ q. every_tells n p q k)
-  where
-    go : (b : Bool) → p n ≡ b → cond b (every n p) false ≡ true → (k ≡ n) ⊎ (k ≡ n → ⊥) → (every n p ≡ true → k < n → p k ≡ true) → p k ≡ true
-    go true e q (inl f) ih = ap p f ∙ e
-    go true e q (inr f) ih = ih q (omega arith)
-    go false e q f ih = absurd (both_ways false refl q)
+every_tells n p h = (Decides-below_and p (λ k. p k ≡ true) (λ n. every n p) (λ k. (λ e. e, λ e. e)) refl (λ _. refl) n).0 h
 
 -- a client has a count between its minimum and its maximum
 between : (F : ℕ) (cs : Clients) (n : ℕ → ℕ) → ℕ → Bool
@@ -83,17 +77,14 @@ within_by b none ones c =
 asks_nobody : HasFault (codes "Q") 2 2
 asks_nobody =
     let begins : Begins (codes "Q") Ask [] [] = record { whole = refl; sized = tt; ended = tt } in
-    (fault_at fault.Space 2, Faults.no_space begins (omega arith) (λ more e. no_cons e), refl, refl)
-  where
-    no_cons : {n : ℕ} {more : List ℕ} → ◌≡◌ {A = List ℕ} [] (n ∷ more) → ⊥
-    no_cons e = let z : ◌≡◌ {A = ℕ} 0 1 = cc in omega arith
+    (fault_at fault.Space 2, Faults.no_space begins (omega arith) (λ more e. cc), refl, refl)
 
 -- a letter, its number and one space more
 goes_on : HasFault (codes "Q 3 ") 4 4
 goes_on =
     let three_is = decimal_digit 3 (omega arith) in
     let begins : Begins (codes "Q 3 ") Ask (3 ∷ []) (32 ∷ []) = record { whole = rw three_is; sized = omega arith; ended = refl } in
-    (fault_at fault.Excess (length (spelled Ask (3 ∷ [])) + 1), Faults.no_end begins refl (λ e. let z : ◌≡◌ {A = ℕ} 0 1 = cc in omega arith), refl, rw three_is)
+    (fault_at fault.Excess (length (spelled Ask (3 ∷ [])) + 1), Faults.no_end begins refl (λ e. cc), refl, rw three_is)
 
 pub worked_examples : WorkedExamples
 unfolding every between stands fits above ranks upto
