@@ -1,6 +1,6 @@
-pub mod Sums
+mod Sums
 mod Downs
 mod Moves
-mod Fills
+pub mod Fills
 mod Frees
 pub mod Ledgers

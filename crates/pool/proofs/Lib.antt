@@ -6,6 +6,5 @@ pub mod Changes
 pub mod Grants
 pub mod Ticks
 pub mod Clocks
-pub mod Firsts
 pub mod Drops
 pub mod Nexts

@@ -1,9 +1,8 @@
 -- A new broker, and one that is given its frames.
-use Rattle.std.proofs.Common.{◌≡◌, ℕ, zero, suc, true, false, List, [], ◌∷◌, get_or, replicate, is_ok, None, Ok, Err, MatchResult, Option, Result, sym, refl, ap, ◌∙◌, subst, inl, inr, add-one, arith}
+use Rattle.std.proofs.Common.{◌≡◌, ℕ, zero, suc, true, false, List, [], ◌∷◌, replicate, is_ok, None, Ok, Err, MatchResult, Option, Result, sym, refl, ap, ◌∙◌, inl, inr, add-one, arith}
 use mathlib.Core.Path.{fun_ext}
-use lib.ListN.{length-replicate}
 use Rattle.std.specs.List.{range_with_len}
-use Rattle.std.proofs.lemmas.List.{nil_from_length, get_or-replicate, get_or_past}
+use Rattle.std.proofs.lemmas.List.{nil_from_length}
 use Rattle.std.proofs.lemmas.Bool.{cases_lt}
 use Rattle.rules.specs.Offers.{Meaning}
 use Rattle.laws.specs.Broker as rules
@@ -11,25 +10,22 @@ use Rattle.laws.specs.Broker.{SlipNumbers, new_broker}
 use Rattle.laws.specs.Calls.{Start, Done, Step, started, IsClear, numbers}
 use Rattle.ledger.specs.declared.ledger.Ledger.{Ledger}
 use Rattle.ledger.specs.Ledgers.{stack_of, Started}
+use Rattle.ledger.proofs.Fills.{same_at}
 use Rattle.ledger.proofs.Ledgers.{holding_few, no_owner}
 use Rattle.pool.specs.declared.member.Member.{Member}
 use Rattle.pool.specs.Members.{end_in, EndsNoted}
 use Rattle.pool.specs.View.{Pool, view, client_of}
-use Rattle.pool.proofs.Views.{clients_of, seen, same_parts, same_clients}
-
--- a table of one value has it at each place, and past its end
-pub same_at : {X : Type 0} (n i : ℕ) (x : X) → get_or (replicate n x) i x ≡ x
-same_at n i x = elim (cases_lt i n) [ inl l ↦ get_or-replicate n i x x l | inr l ↦ get_or_past (replicate n x) i x (omega (arith, length-replicate n x)) ]
+use Rattle.pool.proofs.Views.{clients_of, seen, from_parts, same_client}
 
 nobody : (n : ℕ) (s : ℕ → List ℕ) → clients_of (replicate n None) s ≡ (λ _. None)
 nobody n s = fun_ext each
   where
     each : (c : ℕ) → clients_of (replicate n None) s c ≡ None
     each zero = refl
-    each (suc i) = ap (λ (m : Option Member). client_of m (s (suc i))) (same_at n i None)
+    each (suc i) = ap (λ (m : Option Member). client_of m (s (suc i))) (same_at None n i)
 
 pub new_view : (l : Ledger) → l.frames ≡ 0 → ((o : ℕ) → stack_of l o ≡ []) → seen 0 0 0 None (replicate 256 None) l ≡ new_broker
-new_view l e f = same_parts 0 l.frames 0 0 None e (f 0) (nobody 256 (stack_of l))
+new_view l e f = from_parts (λ (d : rules.Broker). d ≡ new_broker) e (f 0) (nobody 256 (stack_of l)) refl
 
 counted : (i n : ℕ) → range_with_len i n ≡ numbers i n
 unfolding numbers
@@ -46,14 +42,13 @@ no_stack l e o =
 pub start_step : (m : Meaning) (b : Pool) (k : Ledger) (u F : ℕ) → Started b.ledger k F → IsClear m (view b) (Start u F) →
     Step m (view b) (Start u F) (Ok Done) (seen u b.tick b.asks b.passage b.members k)
 start_step m b k u F s clear =
-    let e = same_parts u k.frames b.tick b.asks b.passage s.frames (s.filled.free ∙ counted 1 F)
-    (same_clients b.members (stack_of k) (stack_of b.ledger) (λ i. s.filled.others (suc i) (λ z. omega arith) ∙ sym (no_stack b.ledger s.none_before (suc i)))) in
-    subst (λ (d : rules.Broker). Step m (view b) (Start u F) (Ok Done) d) (sym e) (started clear)
+    from_parts (Step m (view b) (Start u F) (Ok Done)) s.frames (s.filled.free ∙ counted 1 F)
+    (fun_ext (λ c. same_client b.members (stack_of b.ledger) (stack_of k) c (λ pos. s.filled.others c pos ∙ sym (no_stack b.ledger s.none_before c)))) (started clear)
 
 -- an empty table, and no end
 pub new_noted : (n : ℕ) (es : ℕ → Option ℕ) → ((c : ℕ) → es c ≡ None) → EndsNoted (replicate n None) es
 new_noted n es none zero = none 0
-new_noted n es none (suc i) = none (suc i) ∙ sym (ap end_in (same_at n i None))
+new_noted n es none (suc i) = none (suc i) ∙ sym (ap end_in (same_at None n i))
 
 -- what a clause says of a result whose variant is known
 pub at_ok : {T E : Type 0} (P : T → Type 0) (Q : E → Type 0) (r : Result T E) → true ≡ is_ok r → MatchResult r P Q → (x : T) × P x

@@ -1,6 +1,7 @@
 -- The table of clients, with one place changed.
-use Rattle.std.proofs.Common.{◌≡◌, ℕ, suc, ◌<◌, ◌≤◌, ◌≢◌, List, [], length, set, Some, None, Ok, Option, sym, refl, ap, ◌∙◌, subst, arith}
+use Rattle.std.proofs.Common.{◌≡◌, ℕ, suc, ◌≤◌, ◌≢◌, List, [], set, Some, None, Ok, Option, sym, refl, ap, ◌∙◌, subst, arith}
 use mathlib.Core.Path.{fun_ext}
+use Rattle.std.proofs.lemmas.List.{get_or-set_same}
 use Rattle.rules.specs.Offers.{Meaning}
 use Rattle.laws.specs.ByNumber.{total, Numbered, put, by_number}
 use Rattle.laws.specs.Broker as rules
@@ -8,30 +9,35 @@ use Rattle.laws.specs.Broker.{SlipNumbers}
 use Rattle.laws.specs.Division.{terms}
 use Rattle.laws.specs.Calls.{Admission, Admit, Done, Step, admitted, newcomer, IsClear}
 use Rattle.laws.proofs.Kept.{none_some, inside}
-use Rattle.laws.proofs.Puts.{put_at, put_off, each_but}
+use Rattle.laws.proofs.Puts.{put_each}
 use Rattle.laws.proofs.Sums.{at_le_upto}
-use Rattle.laws.proofs.Table.{number_set}
+use Rattle.laws.proofs.Table.{number_off}
 use Rattle.ledger.specs.Ledgers.{stack_of}
 use Rattle.pool.specs.Members.{Member}
 use Rattle.pool.specs.View.{Pool, view, client_of}
-use Rattle.pool.proofs.Views.{clients_of, seen_with, same_parts}
+use Rattle.pool.proofs.Views.{clients_of, seen_with, from_parts, same_client}
+
+-- a client with its stack
+abbrev pub client_with : Member → List ℕ → rules.Client
+client_with x fs = record { shares = x.shares; class = x.class; minimum = x.minimum; maximum = x.maximum; estimate = x.estimate; stack = fs }
+
+pub client_is : (b : Pool) (c : ℕ) (x : Member) → by_number b.members c ≡ Some x → (view b).clients c ≡ Some (client_with x (stack_of b.ledger c))
+client_is b c x e = ap (λ (o : Option Member). client_of o (stack_of b.ledger c)) e
+
+-- where only what is noted of one client and its stack change, only that client changes; the free stack is no client's
+pub changed_clients : (b : Pool) (ys : List (Option Member)) (t : ℕ → List ℕ) (c : ℕ) (y : Option rules.Client) → clients_of ys t c ≡ y →
+    ((d : ℕ) → d ≢ c → by_number ys d ≡ by_number b.members d) → ((d : ℕ) → d ≢ 0 → d ≢ c → t d ≡ stack_of b.ledger d) → clients_of ys t ≡ put (view b).clients c y
+changed_clients b ys t c y here table stacks =
+    fun_ext (put_each (view b).clients c y (λ d z. clients_of ys t d ≡ z) here
+    (λ d ne. ap (λ (o : Option Member). client_of o (t d)) (table d ne) ∙ same_client b.members (stack_of b.ledger) t d (λ pos. stacks d pos ne)))
 
 -- changed in the table, changed among the clients
-pub set_clients : (xs : List (Option Member)) (s : ℕ → List ℕ) (c i : ℕ) (v : Option Member) → c ≡ suc i → i < length xs →
-    clients_of (set xs i v) s ≡ put (clients_of xs s) c (client_of v (s c))
-set_clients xs s c i v e h = fun_ext (each_but c P here off)
-  where
-    table : by_number (set xs i v) ≡ put (by_number xs) c v
-    table = number_set xs i v h ∙ ap (λ (k : ℕ). put (by_number xs) k v) (sym e)
-
-    P : ℕ → Type 0
-    P d = clients_of (set xs i v) s d ≡ put (clients_of xs s) c (client_of v (s c)) d
-
-    here : P c
-    here = ap (λ (f : ℕ → Option Member). client_of (f c) (s c)) table ∙ (ap (λ (o : Option Member). client_of o (s c)) (put_at (by_number xs) c v) ∙ sym (put_at (clients_of xs s) c (client_of v (s c))))
-
-    off : (d : ℕ) → d ≢ c → P d
-    off d ne = ap (λ (f : ℕ → Option Member). client_of (f d) (s d)) table ∙ (ap (λ (o : Option Member). client_of o (s d)) (put_off (by_number xs) c v d ne) ∙ sym (put_off (clients_of xs s) c (client_of v (s c)) d ne))
+pub set_clients : (b : Pool) (t : ℕ → List ℕ) (c i : ℕ) (v : Option Member) (y : Option rules.Client) → c ≡ suc i → c ≤ 256 → client_of v (t c) ≡ y →
+    ((d : ℕ) → d ≢ 0 → d ≢ c → t d ≡ stack_of b.ledger d) → clients_of (set b.members i v) t ≡ put (view b).clients c y
+set_clients b t c i v y e h is stacks =
+    changed_clients b (set b.members i v) t c y
+    (rw e (ap (λ (o : Option Member). client_of o (t (suc i))) (get_or-set_same b.members i v None (omega (arith, e, h, b.places)))) ∙ is)
+    (λ d ne. number_off b.members i v d (omega (arith, ne, e))) stacks
 
 -- a client that is not said to be there is not there
 pub not_there : (o : Option Member) (fs : List ℕ) → ((client_of o fs ≡ None → ⊥) → ⊥) → o ≡ None
@@ -52,9 +58,7 @@ pub admit_step : (m : Meaning) (b : Pool) (a : Admission) (i : ℕ) (x : Member)
 admit_step m b a i x is new clear =
     let c = a.client in
     let s = stack_of b.ledger in
-    let h = inside 1 256 c clear.0 in
     let none : by_number b.members c ≡ None = not_there (by_number b.members c) (s c) clear.1.1.1.1.1.0 in
     let empty : s c ≡ [] = subst (λ (d : ℕ). s d ≡ []) is (b.stray i (subst (λ (d : ℕ). by_number b.members d ≡ None) (sym is) none)) in
-    let with_it = ap (λ (fs : List ℕ). put (view b).clients c (client_of (Some x) fs)) empty ∙ ap (put (view b).clients c) new in
-    let after = set_clients b.members s c i (Some x) (sym is) (omega (arith, is, h, b.places)) ∙ with_it in
-    subst (λ (d : rules.Broker). Step m (view b) (Admit a) (Ok Done) d) (sym (same_parts b.unit b.ledger.frames b.tick b.asks b.passage refl refl after)) (admitted clear)
+    let after = set_clients b s c i (Some x) (Some (newcomer a)) (sym is) (inside 1 256 c clear.0).1 (ap (client_of (Some x)) empty ∙ new) (λ d pos ne. refl) in
+    from_parts (Step m (view b) (Admit a) (Ok Done)) refl refl after (admitted clear)

@@ -1,6 +1,5 @@
--- Equal parts make equal views, and a call that leaves the view as it was may be a refused one.
-use Rattle.std.proofs.Common.{◌≡◌, ℕ, zero, suc, List, get_or, None, Ok, Err, IsErrAnd, Option, Result, sym, refl, ap, subst}
-use mathlib.Core.Path.{fun_ext}
+-- A view by its parts, and a call that leaves the view as it was may be a refused one.
+use Rattle.std.proofs.Common.{◌≡◌, ℕ, zero, suc, ◌≢◌, List, get_or, None, Ok, Err, IsErrAnd, Option, Result, refl, ap, arith}
 use Rattle.rules.specs.Offers.{Meaning}
 use Rattle.rules.specs.declared.refusal.Refusal.{Refusal}
 use Rattle.laws.specs.Broker as rules
@@ -25,23 +24,18 @@ seen u t n p xs l =
 abbrev pub seen_with : Pool → List (Option Member) → Ledger → rules.Broker
 seen_with b xs l = seen b.unit b.tick b.asks b.passage xs l
 
-pub same_parts : (u F t n : ℕ) (p : Option SlipNumbers) {G : ℕ} {fs gs : List ℕ} {cs ds : ℕ → Option rules.Client} → F ≡ G → fs ≡ gs → cs ≡ ds →
-    ◌≡◌ {A = rules.Broker} (record { unit = u; frames = F; tick = t; asks = n; free = fs; clients = cs; passage = p }) (record { unit = u; frames = G; tick = t; asks = n; free = gs; clients = ds; passage = p })
-same_parts u F t n p e f g = cc
-
-pub refused_step : {m : Meaning} {b : rules.Broker} {x : Call} {r : Refusal} (d : rules.Broker) → d ≡ b → RefusedBy m b x r → Step m b x (Err r) d
-refused_step {m = m} {b = b} {x = x} {r = r} d e f = subst (λ (d : rules.Broker). Step m b x (Err r) d) (sym e) (refused f)
+-- what holds of a view holds of one with equal parts
+pub from_parts : (P : rules.Broker → Type 0) {u t n F G : ℕ} {p : Option SlipNumbers} {fs gs : List ℕ} {cs ds : ℕ → Option rules.Client} → F ≡ G → fs ≡ gs → cs ≡ ds →
+    P (record { unit = u; frames = G; tick = t; asks = n; free = gs; clients = ds; passage = p }) → P (record { unit = u; frames = F; tick = t; asks = n; free = fs; clients = cs; passage = p })
+from_parts P e f g h = rw (e, f, g) h
 
 -- the exit of a call whose answer hands a refusal on
 pub refused_exit : {A : Type 0} {m : Meaning} {b d : rules.Broker} {x : Call} (word : A → Answer) (e : Refusal) (r : Result A Refusal) →
     IsErrAnd r (λ y. y ≡ e) → d ≡ b → RefusedBy m b x e → Step m b x (answered word r) d
 refused_exit word e (Ok a) h same f = absurd h
-refused_exit {m = m} {b = b} {d = d} {x = x} word e (Err y) h same f = subst (λ (z : Refusal). Step m b x (Err z) d) (sym h) (refused_step d same f)
+refused_exit word e (Err y) h same f = rw (h, same) (refused f)
 
--- stacks that agree on all clients make the same clients
-pub same_clients : (xs : List (Option Member)) (s t : ℕ → List ℕ) → ((i : ℕ) → s (suc i) ≡ t (suc i)) → clients_of xs s ≡ clients_of xs t
-same_clients xs s t e = fun_ext each
-  where
-    each : (c : ℕ) → clients_of xs s c ≡ clients_of xs t c
-    each zero = refl
-    each (suc i) = ap (client_of (get_or xs i None)) (e i)
+-- a client is as it was where its stack is; number 0 is no client's
+pub same_client : (xs : List (Option Member)) (s t : ℕ → List ℕ) (c : ℕ) → (c ≢ 0 → t c ≡ s c) → clients_of xs t c ≡ clients_of xs s c
+same_client xs s t zero e = refl
+same_client xs s t (suc i) e = ap (client_of (get_or xs i None)) (e (λ z. omega arith))
