@@ -48,9 +48,11 @@ not_there (Some x) fs h = absurd (h (λ e. none_some e refl))
 pub shares_among : (xs : List (Option Member)) (s : ℕ → List ℕ) (c : ℕ) (x : Member) → Numbered c → by_number xs c ≡ Some x →
     x.shares ≤ total (λ d. (terms (rules.terms_of (clients_of xs s d))).shares)
 shares_among xs s c x i e =
-    let one = at_le_upto 256 (λ d. (terms (rules.terms_of (clients_of xs s d))).shares) c i in
-    let its = ap (λ (o : Option Member). (terms (rules.terms_of (client_of o (s c)))).shares) e in
-    omega (arith, one, its)
+    omega (
+      arith,
+      at_le_upto 256 (λ d. (terms (rules.terms_of (clients_of xs s d))).shares) c i,
+      ap (λ (o : Option Member). (terms (rules.terms_of (client_of o (s c)))).shares) e,
+    )
 
 -- what is noted of a new client makes it the newcomer that the rules speak of
 pub admit_step : (m : Meaning) (b : Pool) (a : Admission) (i : ℕ) (x : Member) → suc i ≡ a.client → ◌≡◌ {A = Option rules.Client} (client_of (Some x) []) (Some (newcomer a)) →
@@ -58,7 +60,7 @@ pub admit_step : (m : Meaning) (b : Pool) (a : Admission) (i : ℕ) (x : Member)
 admit_step m b a i x is new clear =
     let c = a.client in
     let s = stack_of b.ledger in
-    let none : by_number b.members c ≡ None = not_there (by_number b.members c) (s c) clear.1.1.1.1.1.0 in
-    let empty : s c ≡ [] = subst (λ (d : ℕ). s d ≡ []) is (b.stray i (subst (λ (d : ℕ). by_number b.members d ≡ None) (sym is) none)) in
+    let none = not_there (by_number b.members c) (s c) clear.1.1.1.1.1.0 in
+    let empty : s c ≡ [] = rw (← is) (b.stray i (rw (← is) at none)) in
     let after = set_clients b s c i (Some x) (Some (newcomer a)) (sym is) (inside 1 256 c clear.0).1 (ap (client_of (Some x)) empty ∙ new) (λ d pos ne. refl) in
     from_parts (Step m (view b) (Admit a) (Ok Done)) refl refl after (admitted clear)
