@@ -97,12 +97,11 @@ length_numbers i (suc n) = omega (arith, length_numbers (suc i) n)
 pub started_kept : (m : Meaning) (b : Broker) (u F : ℕ) → Kept b → IsClear m b (Start u F) → Pool F (length (numbers 1 F)) b.clients
 started_kept m b u F k clear =
     let i = inside 1 4_096 F (λ h. clear.0 (inl h)) in
-    let a : 1 ≤ b.frames → ⊥ = clear.1.0 in
     record {
-      small = omega arith;
-      all = omega (arith, k.all, length_numbers 1 F);
-      room = omega (arith, k.room);
-      each_fits = λ c. let f = k.each_fits c in record { fits = f.fits; order = f.order; within = omega arith; sound = f.sound };
+      small = omega (arith, i);
+      all = omega (arith, k.all, length_numbers 1 F, clear.1.0);
+      room = omega (arith, k.room, clear.1.0);
+      each_fits = λ c. let f = k.each_fits c in record { fits = f.fits; order = f.order; within = omega (arith, f.within, clear.1.0); sound = f.sound };
     }
 
 pub admitted_kept : (m : Meaning) (b : Broker) (a : Admission) → Kept b → IsClear m b (Admit a) →

@@ -31,12 +31,7 @@ grants_append (e ∷ more) h = omega (arith, grants_append more h)
 -- an ask of an admitted client that is refused with no passage open turns it away
 module _ (m : Meaning) (b : Broker) (c : ℕ) (i : Numbered c) (x : Client) (there : b.clients c ≡ Some x) (closed : b.passage ≡ None) where
   which : (r : Refusal) → RefusedBy m b (Ask c) r → (r ≡ AtMaximum) ⊎ (r ≡ Outbid)
-  which r (inl (out, e)) = absurd (elim out [ inl h ↦ omega arith | inr h ↦ omega arith ])
-  which r (inr (n, inl (open_still, e))) = absurd (open_still closed)
-  which r (inr (n, inr (o, inl (none, e)))) = absurd (none_some none there)
-  which r (inr (n, inr (o, inr (p, inl (full, e))))) = inl e
-  which r (inr (n, inr (o, inr (p, inr (q, inl (out, e)))))) = inr e
-  which r (inr (n, inr (o, inr (p, inr (q, inr (s, none)))))) = absurd none
+  which r f = grind arith
 
   turns : (y : Call) (a : Result Answer Refusal) (d : Broker) → y ≡ Ask c → IsRefused a → Step m b y a d → TurnsAway c (event y a d)
   turns y a d e n s =
