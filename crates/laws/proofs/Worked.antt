@@ -38,24 +38,14 @@ settled_by : (m : Meaning) (F : ℕ) (cs : Clients) (n : ℕ → ℕ) → ((c : 
     every 4 (between F cs n) ≡ true → every 4 (λ c. every 4 (stands m F cs n c)) ≡ true → total n ≡ min F (total (capped F cs)) → Settled m F cs n
 unfolding between stands
 settled_by m F cs n none ones pairs sums =
-    record { from = λ c. (ends c).0; to = λ c. (ends c).1; sum = sums; ranked = rank }
-  where
-    ends : (c : ℕ) → (minimum_of cs c ≤ n c) × (n c ≤ capped F cs c)
-    ends c =
-        elim (cases_lt c 4) [
-          | inl h ↦ let t = every_tells 4 (between F cs n) ones c h in (grind (arith, nat_tests), grind (arith, nat_tests))
-          | inr h ↦ let (e, z) = none c h in (omega (arith, ap (λ o. (terms o).minimum) e), omega (arith, z))
-        ]
-
-    rank : (c d : ℕ) → c ≢ d → minimum_of cs c < n c → n d < capped F cs d → above m (bid_of cs c (n c)) (bid_of cs d (n d + 1)) ≡ true
-    rank c d ne p q =
-        elim (cases_lt c 4) [
-          | inl h ↦ elim (cases_lt d 4) [
-            | inl i ↦ let t = every_tells 4 (stands m F cs n c) (every_tells 4 (λ c. every 4 (stands m F cs n c)) pairs c h) d i in grind (arith, nat_tests)
-            | inr i ↦ let (e, z) = none d i in absurd (omega (arith, ap (λ o. (terms o).maximum) e))
-          ]
-          | inr h ↦ let (e, z) = none c h in absurd (omega (arith, z))
-        ]
+    record {
+      from = λ c. grind (arith, nat_tests, every_tells 4 (between F cs n) ones c, none c);
+      to = λ c. grind (arith, nat_tests, every_tells 4 (between F cs n) ones c, none c);
+      sum = sums;
+      ranked = λ c d ne p q.
+          let stand : c < 4 → d < 4 → stands m F cs n c d ≡ true = λ h. every_tells 4 (stands m F cs n c) (every_tells 4 (λ c. every 4 (stands m F cs n c)) pairs c h) d in
+          grind (arith, nat_tests, stand, none c, none d);
+    }
 
 none_past : (l h x y z c : ℕ) → 4 ≤ c → (trio l h c ≡ None) × (three x y z 0 c ≡ 0)
 none_past l h x y z c g = (grind (arith, nat_tests), grind (arith, nat_tests))
@@ -68,10 +58,7 @@ fits b c = leb (minimum_of (present b) c * all_shares b) (b.frames * shares_of b
 within_by : (b : Broker) → ((c : ℕ) → 4 ≤ c → b.clients c ≡ None) → every 4 (fits b) ≡ true → MinimumsWithin b
 unfolding fits
 within_by b none ones c =
-    elim (cases_lt c 4) [
-      | inl h ↦ let t = every_tells 4 (fits b) ones c h in grind (arith, nat_tests)
-      | inr h ↦ let e = ap (λ o. (terms (terms_of o)).minimum) (none c h) in subst (λ (n : ℕ). n * all_shares b ≤ b.frames * shares_of b c) (sym e) (omega arith)
-    ]
+    grind (arith, nat_tests, every_tells 4 (fits b) ones c, none c)
 
 -- a letter and no space
 asks_nobody : HasFault (codes "Q") 2 2
