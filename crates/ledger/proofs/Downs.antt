@@ -43,4 +43,4 @@ down_apart below f v g (suc n) h =
 
 -- a stack that has a frame is an owner's
 pub high_within : (v : Links) (o : ℕ) → 0 < length (stacks v o) → o < 257
-high_within v o h = elim (cases_lt o 257) [ inl l ↦ l | inr g ↦ absurd (omega (arith, h, ap length (stack_past v.below v.stacks o (omega (arith, g, v.owners))))) ]
+high_within v o h = grind (arith, stack_past v.below v.stacks o, v.owners)

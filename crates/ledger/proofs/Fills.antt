@@ -33,10 +33,7 @@ once_filled t n F pos h f =
 module _ (v : Links) (below : List ℕ) (F : ℕ) (none : many v ≡ 0) (links : (f : ℕ) → 1 ≤ f → f ≤ F → get_or below f 0 ≡ f + 1) where
   low : (o : ℕ) → (get_or v.stacks o empty).height ≡ 0
   low o =
-      elim (cases_lt o (length v.stacks)) [
-        | inl l ↦ omega (arith, get_or-le-sum_by (λ s. s.height) v.stacks o empty l)
-        | inr g ↦ ap (λ s. s.height) (get_or_past v.stacks o empty g)
-      ]
+      grind (arith, get_or-le-sum_by (λ s. s.height) v.stacks o empty, get_or_past v.stacks o empty)
 
   abbrev pub all_free : List Stack
   all_free = set v.stacks 0 (record { top = 1; height = F })

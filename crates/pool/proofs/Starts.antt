@@ -34,10 +34,7 @@ counted i (suc n) = ap (λ (xs : List ℕ). i ∷ xs) (ap (λ (a : ℕ). range_w
 
 no_stack : (l : Ledger) → l.frames ≡ 0 → (o : ℕ) → stack_of l o ≡ []
 no_stack l e o =
-    elim (cases_lt o 257) [
-      | inl h ↦ nil_from_length (stack_of l o) (omega (arith, holding_few l o h))
-      | inr h ↦ no_owner l o h
-    ]
+    grind (arith, holding_few l o, nil_from_length (stack_of l o), no_owner l o)
 
 pub start_step : (m : Meaning) (b : Pool) (k : Ledger) (u F : ℕ) → Started b.ledger k F → IsClear m (view b) (Start u F) →
     Step m (view b) (Start u F) (Ok Done) (seen u b.tick b.asks b.passage b.members k)
