@@ -1,6 +1,5 @@
 -- Clients with fixed terms, whose bids stand in one line: all that divisions and runs need of the rank.
-use Rattle.std.proofs.Common.{◌≡◌, ℕ, ◌+◌, ◌<◌, ◌≤◌, Bool, true, false, ◌≢◌, ◌⊎◌, sym, ap, subst, inl, inr, arith}
-use Rattle.std.proofs.lemmas.Bool.{cases_eq, cases_Bool, both_ways}
+use Rattle.std.proofs.Common.{◌≡◌, ℕ, ◌+◌, ◌<◌, ◌≤◌, Bool, true, false, ◌≢◌, ◌⊎◌, arith}
 use Rattle.laws.specs.ByNumber.{Numbered}
 
 -- a client may come to hold k frames
@@ -20,15 +19,12 @@ pub record Contest : Type 0 where
 
 module _ (K : Contest) where
   pub irr : (c j : ℕ) → Can K.cap c j → K.over c j c j ≡ false
-  irr c j p = elim (cases_Bool (K.over c j c j)) [ inl e ↦ K.asym c j c j p p e | inr e ↦ e ]
+  irr c j p = grind (arith, K.asym c j c j p p)
 
   -- more frames never rank above fewer
   pub no_rise : (c j k : ℕ) → 1 ≤ j → j ≤ k → k ≤ K.cap c → K.over c k c j ≡ false
   no_rise c j k p h q =
-      elim (cases_eq j k) [
-        | inl e ↦ subst (λ (x : ℕ). K.over c x c j ≡ false) e (irr c j (omega arith))
-        | inr ne ↦ K.asym c j c k (omega arith) (omega arith) (K.fall c j k (omega arith) (omega arith) (omega arith))
-      ]
+      grind (arith, irr c j, K.asym c j c k, K.fall c j k)
 
   -- what one has beyond its minimum ranks above what another below its maximum would get next
   abbrev pub Exchange : (ℕ → ℕ) → Type 0
@@ -38,14 +34,6 @@ module _ (K : Contest) where
   pub no_two : (n o : ℕ → ℕ) → ((c : ℕ) → K.low c ≤ n c) → ((c : ℕ) → K.low c ≤ o c) → ((c : ℕ) → n c ≤ K.cap c) → ((c : ℕ) → o c ≤ K.cap c) →
       Exchange n → Exchange o → (c d : ℕ) → n c < o c → o d < n d → ⊥
   no_two n o ln lo nc oc sn so c d h k =
-      let e : c ≢ d = λ x. omega (arith, ap n x, ap o x) in
-      let p = so c d e (omega (arith, ln c)) (omega (arith, nc d)) in
-      let q = sn d c (λ x. e (sym x)) (omega (arith, lo d)) (omega (arith, oc c)) in
-      let more_c : Can K.cap c (o c) = omega (arith, oc c) in
-      let next_d : Can K.cap d (o d + 1) = omega (arith, nc d) in
-      let more_d : Can K.cap d (n d) = omega (arith, nc d) in
-      let next_c : Can K.cap c (n c + 1) = omega (arith, oc c) in
-      let a = no_rise d (o d + 1) (n d) (omega arith) (omega arith) (omega arith) in
-      let b = K.past d (n d) d (o d + 1) c (o c) more_d next_d more_c a (K.asym c (o c) d (o d + 1) more_c next_d p) in
-      let g = K.past d (n d) c (o c) c (n c + 1) more_d more_c next_c b (no_rise c (n c + 1) (o c) (omega arith) (omega arith) (omega arith)) in
-      both_ways (K.over d (n d) c (n c + 1)) g q
+      let past_c = K.past d (n d) d (o d + 1) c (o c) in
+      let past_d = K.past d (n d) c (o c) c (n c + 1) in
+      grind (arith, ln c, lo d, nc d, oc c, so c d, K.asym c (o c) d (o d + 1), no_rise d (o d + 1) (n d), past_c, no_rise c (n c + 1) (o c), past_d, sn d c)

@@ -1,6 +1,5 @@
 -- A call has one answer, and leaves one broker.
-use Rattle.std.proofs.Common.{◌≡◌, ℕ, ◌⊎◌, List, [], ◌∷◌, sym, refl, ◌∙◌, inl, inr, Err, Result}
-use Rattle.std.proofs.lemmas.Bool.{cases_eq, both_ways}
+use Rattle.std.proofs.Common.{◌≡◌, ℕ, ◌⊎◌, List, [], ◌∷◌, sym, refl, ◌∙◌, inl, inr, arith, Err, Result}
 use Rattle.rules.specs.declared.call.Call.{Call}
 use Rattle.rules.specs.declared.call.Answer.{Answer}
 use Rattle.rules.specs.declared.refusal.Refusal.{Refusal}
@@ -28,13 +27,7 @@ first_or_clear (e ∷ es) r (inr u) v = first_or_clear es r u.1 v.1
 -- there is one lowest payer
 pub one_payer : (m : Meaning) (b : Broker) (p q : ℕ) → LowestPayer m b p → LowestPayer m b q → p ≡ q
 one_payer m b p q u v =
-    elim (cases_eq p q) [
-      | inl e ↦ e
-      | inr ne ↦ absurd (elim (decided m (bid_of (present b) p (holding b p)) (bid_of (present b) q (holding b q)) (λ e. ne e.0)) [
-        | inl h ↦ both_ways _ (u.lowest q v.beyond) h
-        | inr h ↦ both_ways _ (v.lowest p u.beyond) h
-      ])
-    ]
+    grind (arith, decided m (bid_of (present b) p (holding b p)) (bid_of (present b) q (holding b q)), u.lowest q v.beyond, v.lowest p u.beyond)
 
 abbrev Same : Result Answer Refusal → Result Answer Refusal → Broker → Broker → Type 0
 Same a c d e = (a ≡ c) × (d ≡ e)

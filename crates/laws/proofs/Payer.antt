@@ -1,6 +1,6 @@
 -- The lowest payer.
 use Rattle.std.proofs.Common.{◌≡◌, ℕ, zero, suc, ◌+◌, ◌<◌, ◌≤◌, true, false, ◌≢◌, ◌⊎◌, sym, subst, inl, inr, arith}
-use Rattle.std.proofs.lemmas.Bool.{cases_lt, cases_eq, cases_Bool, both_ways}
+use Rattle.std.proofs.lemmas.Bool.{cases_lt, cases_eq, cases_Bool}
 use Rattle.laws.proofs.Sums.{In}
 use Rattle.laws.proofs.Contest.{Contest, Can, irr, no_rise}
 
@@ -57,9 +57,4 @@ module _ (K : Contest) (h : ℕ → ℕ) (fits : (c : ℕ) → h c ≤ K.cap c) 
   -- who may take a frame does not take it from itself
   pub other : (c p : ℕ) → h c < K.cap c → Yields K h c p → p ≢ c
   other c p room y e =
-      elim y.1 [
-        | inl u ↦ omega (arith, subst (λ (q : ℕ). K.low q < h q) e y.0.beyond)
-        | inr x ↦ both_ways (K.over c (h c + 1) c (h c))
-            (no_rise K c (h c) (h c + 1) (omega (arith, subst (λ (q : ℕ). K.low q < h q) e y.0.beyond)) (omega arith) (omega arith))
-            (subst (λ (q : ℕ). K.over c (h c + 1) q (h q) ≡ true) e x)
-      ]
+      grind (arith, e, room, y.0.beyond, y.1, no_rise K c (h c) (h c + 1))

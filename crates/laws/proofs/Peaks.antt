@@ -1,6 +1,5 @@
 -- In a stretch of asks, what a client has lost it never gets back: peak c is the most that c has held in the stretch.
 use Rattle.std.proofs.Common.{◌≡◌, ℕ, ◌+◌, ◌<◌, ◌≤◌, false, ◌≢◌, refl, ap, inl, inr, arith}
-use Rattle.std.proofs.lemmas.Bool.{cases_lt, both_ways}
 use Rattle.laws.specs.ByNumber.{total, Numbered, put}
 use Rattle.laws.proofs.Puts.{each_but_two, put_at, put_off, put_each, put_sum}
 use Rattle.laws.proofs.Contest.{Contest, Can, no_rise}
@@ -62,10 +61,8 @@ module _ (K : Contest) where
     where
       level : h c ≡ peak c
       level =
-          elim (cases_lt (h c) (peak c)) [
-            | inr k ↦ omega (arith, t.held c)
-            | inl k ↦ absurd (elim y.1 [ inl u ↦ omega (arith, t.kept c k) | inr x ↦ both_ways (K.over c (h c + 1) p (h p)) (t.lost c k p y.0.beyond) x ])
-          ]
+          let lost : h c < peak c → K.over c (h c + 1) p (h p) ≡ false = λ k. t.lost c k p y.0.beyond in
+          grind (arith, t.held c, t.kept c, lost, y.1)
 
       apart : p ≢ c
       apart e = omega (arith, ap h e, ap o e)

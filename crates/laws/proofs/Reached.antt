@@ -17,7 +17,7 @@ use Rattle.laws.specs.Histories.{Event, event, Run, start, then, Each, grant, gr
 use Rattle.laws.specs.Guarantees.{room}
 use Rattle.laws.specs.Laws.{Asked, RestIsReached}
 use Rattle.laws.proofs.Sums.{In}
-use Rattle.laws.proofs.Kept.{Kept, none_some, numbered}
+use Rattle.laws.proofs.Kept.{Kept, numbered}
 use Rattle.laws.proofs.Runs.{history_kept, refused_step, joined_run, lands}
 use Rattle.laws.proofs.Asks.{stretch_bounded, asks_are_bounded}
 use Rattle.laws.proofs.One.{first_or_clear, kind}

@@ -1,6 +1,6 @@
 -- Where every client is at its maximum or outbid, the holdings are settled.
 use Rattle.std.proofs.Common.{◌≡◌, ℕ, ◌+◌, ◌<◌, ◌≤◌, min, ◌⊎◌, inl, inr, arith}
-use Rattle.std.proofs.lemmas.Bool.{cases_lt, false_from_ne_true, both_ways}
+use Rattle.std.proofs.lemmas.Bool.{cases_lt, false_from_ne_true}
 use Rattle.laws.specs.ByNumber.{total}
 use Rattle.laws.proofs.Sums.{In, upto_le, upto_lt, upto_same, below_or_not}
 use Rattle.laws.proofs.Contest.{Contest, Exchange}
@@ -34,8 +34,7 @@ module _ (K : Contest) (h : ℕ → ℕ) (fits : (c : ℕ) → h c ≤ K.cap c) 
       let o = out d k in
       let (p, q) = payer K h fits c g in
       let e = false_from_ne_true (K.over d (h d + 1) p (h p)) (λ x. o.1 p (q, inr x)) in
-      let f = K.past d (h d + 1) p (h p) c (h c) (omega arith) (omega (arith, q.beyond, fits p)) (omega (arith, fits c)) e (q.lowest c g) in
-      elim (K.decided c (h c) d (h d + 1) ne) [ inl x ↦ x | inr x ↦ absurd (both_ways (K.over d (h d + 1) c (h c)) f x) ]
+      grind (arith, e, q.beyond, q.lowest c g, K.past d (h d + 1) p (h p) c (h c), K.decided c (h c) d (h d + 1) ne, fits p, fits c)
 
   pub settled : ((c : ℕ) → K.low c ≤ h c) × (total h ≡ min F (total K.cap)) × Exchange K h
   settled = (settled_from, settled_sum, settled_exchange)

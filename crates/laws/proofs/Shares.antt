@@ -2,7 +2,7 @@
 -- down, and who loses a frame had more.
 use Rattle.std.proofs.Common.{◌≡◌, ℕ, ◌+◌, ◌*◌, ◌<◌, ◌≤◌, true, ◌⊎◌, ap, inl, inr, lt_of_mul-lt-mul_right, mul-le-mul_left, mul-lt-mul_of_pos_right, arith}
 use native.Mathlib.Nat.{lt_of_mul-lt-mul_left, le_of_mul-le-mul_left}
-use Rattle.std.proofs.lemmas.Bool.{cases_lt, false_from_ne_true, both_ways}
+use Rattle.std.proofs.lemmas.Bool.{cases_lt, false_from_ne_true}
 use Rattle.laws.specs.ByNumber.{total}
 use Rattle.laws.proofs.Sums.{In, upto_lt, upto_times, below_or_not, below_too, at_le_upto}
 use Rattle.laws.proofs.Contest.{Contest, Can}
@@ -45,13 +45,9 @@ module _ (K : Contest) (h : ℕ → ℕ) (fits : (c : ℕ) → h c ≤ K.cap c) 
           let (d, i, more) = below_too 256 due have (omega (arith, equal)) c (K.numbered c (omega arith)) (omega (arith, positive c k)) in
           let b = beyond d more in
           let (p, q) = payer K h fits d b in
-          elim (cases_lt (h c) (K.low c)) [
-            | inl under ↦ o.1 p (q, inl under)
-            | inr ge ↦
-                let w = fraction c (h c + 1) d (h d) (omega arith) (omega (arith, fits d)) (omega arith) b (crossed F S (sh c) (h c + 1) (sh d) (h d) (omega arith) g (omega arith)) in
-                let x = false_from_ne_true (K.over c (h c + 1) p (h p)) (λ e. o.1 p (q, inr e)) in
-                both_ways (K.over c (h c + 1) d (h d)) (K.past c (h c + 1) p (h p) d (h d) (omega arith) (omega (arith, q.beyond, fits p)) (omega (arith, fits d)) x (q.lowest d b)) w
-          ]
+          let under : h c < K.low c → ⊥ = λ u. o.1 p (q, inl u) in
+          let below_p = false_from_ne_true (K.over c (h c + 1) p (h p)) (λ e. o.1 p (q, inr e)) in
+          grind (arith, g, more, under, fits p, fits d, q.beyond, fraction c (h c + 1) d (h d), crossed F S (sh c) (h c + 1) (sh d) (h d), below_p, q.lowest d b, K.past c (h c + 1) p (h p) d (h d))
 
   -- a client that loses a frame had more than its part
   pub loser_had_more : (c p : ℕ) → h c < K.cap c → Yields K h c p → F * sh p < h p * total sh
@@ -64,11 +60,9 @@ module _ (K : Contest) (h : ℕ → ℕ) (fits : (c : ℕ) → h c ≤ K.cap c) 
       no : h p * total sh ≤ F * sh p → ((d : ℕ) × In 256 d × (due d < have d)) ⊎ ((d : ℕ) → In 256 d → have d ≤ due d) → ⊥
       no g (inl (d, i, more)) =
           let b = beyond d more in
-          both_ways (K.over p (h p) d (h d)) (y.0.lowest d b) (fraction p (h p) d (h d) can (omega (arith, fits d)) y.0.beyond b (crossed F S (sh p) (h p) (sh d) (h d) (omega (arith, y.0.beyond)) g (omega arith)))
+          grind (arith, g, more, can, fits d, y.0.beyond, fraction p (h p) d (h d), crossed F S (sh p) (h p) (sh d) (h d), y.0.lowest d b)
       no g (inr a) =
           let e : F * sh c ≤ S * h c = grind (arith, equal, upto_lt 256 have due a c (K.numbered c (omega arith))) in
           let s = positive c k in
           let b : K.low c ≤ h c = le_of_mul-le-mul_left {k = S} (omega (arith, within c)) s in
-          let w = fraction p (h p) c (h c + 1) can (omega arith) y.0.beyond (omega arith) (crossed F S (sh p) (h p) (sh c) (h c + 1) (omega (arith, y.0.beyond)) g (omega arith)) in
-          let v = K.asym p (h p) c (h c + 1) can (omega arith) w in
-          elim y.1 [ inl lt ↦ omega arith | inr x ↦ both_ways (K.over c (h c + 1) p (h p)) v x ]
+          grind (arith, g, s, b, e, can, y.0.beyond, y.1, fraction p (h p) c (h c + 1), crossed F S (sh p) (h p) (sh c) (h c + 1), K.asym p (h p) c (h c + 1))

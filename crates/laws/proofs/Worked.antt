@@ -1,7 +1,6 @@
 -- The worked examples, by computing.
-use Rattle.std.proofs.Common.{◌≡◌, ℕ, zero, suc, ◌+◌, ◌*◌, ◌<◌, ◌≤◌, min, Bool, true, false, cond, ◌&&◌, eqb, ltb, leb, ◌≢◌, [], ◌∷◌, length, None, codes, sym, refl, ap, subst, inl, inr, arith}
+use Rattle.std.proofs.Common.{◌≡◌, ℕ, zero, suc, ◌+◌, ◌*◌, ◌<◌, ◌≤◌, min, Bool, true, false, cond, ◌&&◌, eqb, ltb, leb, [], ◌∷◌, length, None, codes, refl, arith}
 use Rattle.std.proofs.lemmas.Fmt.{decimal_digit}
-use Rattle.std.proofs.lemmas.Bool.{cases_lt}
 use Rattle.std.proofs.lemmas.Bool.Decides.{nat_tests, Decides-below_and}
 use Rattle.rules.specs.Offers.{Meaning}
 use Rattle.rules.specs.Prices.{share}
@@ -12,8 +11,8 @@ use Rattle.events.specs.Grammar.{spelled}
 use Rattle.events.specs.Faults
 use Rattle.events.specs.Faults.{Begins, fault_at}
 use Rattle.laws.specs.ByNumber.{upto, total}
-use Rattle.laws.specs.Division.{Clients, Settled, terms, minimum_of, capped, bid_of}
-use Rattle.laws.specs.Broker.{Broker, present, terms_of, shares_of, all_shares, MinimumsWithin}
+use Rattle.laws.specs.Division.{Clients, Settled, minimum_of, capped, bid_of}
+use Rattle.laws.specs.Broker.{Broker, present, shares_of, all_shares, MinimumsWithin}
 use Rattle.laws.specs.Cases.{three, trio, seven, HasFault, WorkedExamples}
 
 -- a test of the numbers below n

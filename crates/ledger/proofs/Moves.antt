@@ -1,8 +1,7 @@
 -- A frame goes from the top of one stack to the top of another.
-use Rattle.std.proofs.Common.{◌≡◌, ℕ, suc, ◌+◌, ◌-◌, ◌<◌, ◌≤◌, cond, eqb, List, ◌∷◌, length, get_or, set, ◌≢◌, sym, ap, ◌∙◌, subst, inl, inr, add-one, arith}
+use Rattle.std.proofs.Common.{◌≡◌, ℕ, suc, ◌+◌, ◌-◌, ◌<◌, ◌≤◌, cond, eqb, List, ◌∷◌, length, get_or, set, ◌≢◌, sym, ap, ◌∙◌, subst, add-one, arith}
 use Rattle.std.proofs.lemmas.List.{get_or-set_same, get_or-set_other, length-set}
 use Rattle.std.proofs.lemmas.List.Sums.{sum_by-set}
-use Rattle.std.proofs.lemmas.Bool.{cases_lt}
 use Rattle.std.proofs.lemmas.Bool.Decides.{nat_tests}
 use Rattle.ledger.specs.Stacks.{times, Once, Moved}
 use Rattle.ledger.specs.Linked.{down, empty, stack, together, Sound}
@@ -53,10 +52,7 @@ module _ (v : Links) (from : ℕ) (is : from < 257) (high : 0 < length (stacks v
 
   gone : (o : ℕ) → (o ≡ from → ⊥) → times frame (stacks v o) ≡ 0
   gone o apart =
-      elim (cases_lt o 257) [
-        | inl l ↦ grind (arith, nat_tests, two_in counts 257 from o is l (λ p. apart (sym p)), here, v.sound.1 frame)
-        | inr g ↦ ap (times frame) (stack_past v.below v.stacks o (omega (arith, g, v.owners)))
-      ]
+      grind (arith, nat_tests, two_in counts 257 from o is, here, v.sound.1 frame, stack_past v.below v.stacks o, v.owners)
 
   -- it is put on top of another stack
   module _ (to : ℕ) (fits : to < 257) (other : from ≢ to) where

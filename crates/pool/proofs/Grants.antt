@@ -1,8 +1,7 @@
 -- Frames granted: from the free stack, or from another client.
-use Rattle.std.proofs.Common.{◌≡◌, ℕ, zero, suc, ◌+◌, ◌%◌, ◌^◌, ◌≤◌, ◌≢◌, List, [], ◌∷◌, length, Some, None, Option, refl, ap, ◌∙◌, inl, inr, arith}
+use Rattle.std.proofs.Common.{◌≡◌, ℕ, zero, suc, ◌+◌, ◌%◌, ◌^◌, ◌≤◌, ◌≢◌, List, [], ◌∷◌, length, Some, None, Option, refl, ap, ◌∙◌, arith}
 use mathlib.Core.Path.{fun_ext}
 use Rattle.std.proofs.lemmas.List.{get_or_past}
-use Rattle.std.proofs.lemmas.Bool.{cases_lt}
 use Rattle.laws.specs.ByNumber.{Numbered, put, by_number}
 use Rattle.laws.specs.Broker as rules
 use Rattle.laws.specs.Calls.{slip}
@@ -29,11 +28,7 @@ none_with None fs e = refl
 -- who is noted has a client number
 pub noted_numbered : (xs : List (Option Member)) → length xs ≡ 256 → (c : ℕ) (x : Member) → by_number xs c ≡ Some x → Numbered c
 noted_numbered xs long zero x e = absurd (none_some refl e)
-noted_numbered xs long (suc i) x e =
-    elim (cases_lt i 256) [
-      | inl h ↦ (omega arith, omega arith)
-      | inr h ↦ absurd (none_some (get_or_past xs i None (omega (arith, long))) e)
-    ]
+noted_numbered xs long (suc i) x e = grind (arith, long, e, get_or_past xs i None)
 
 module _ (b : Pool) (k : Ledger) (c f : ℕ) (same : k.frames ≡ b.ledger.frames) where
   abbrev before : rules.Broker

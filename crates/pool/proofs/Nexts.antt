@@ -1,7 +1,6 @@
 -- The next client in the table.
-use Rattle.std.proofs.Common.{◌≡◌, ℕ, zero, suc, ◌<◌, ◌≤◌, true, false, List, length, is_some, Some, None, MatchOption, Option, refl, ap, inl, inr, arith}
+use Rattle.std.proofs.Common.{◌≡◌, ℕ, zero, suc, ◌<◌, ◌≤◌, true, false, List, length, is_some, Some, None, MatchOption, Option, refl, arith}
 use Rattle.std.proofs.lemmas.List.{get_or_past}
-use Rattle.std.proofs.lemmas.Bool.{cases_lt}
 use Rattle.std.proofs.lemmas.Bool.Decides.{nat_tests}
 use Rattle.laws.specs.ByNumber.{by_number}
 use Rattle.pool.specs.Members.{Member}
@@ -32,7 +31,4 @@ pub next_of : (b : Pool) (a n : ℕ) (r : Option ℕ) → ((d : ℕ) → d < 257
 next_of b a n (Some c) from (low, high, here, none) =
     ((from c high).1 low, some_client (by_number b.members c) (stack_of b.ledger c) here, λ d l h. free_client (by_number b.members d) (stack_of b.ledger d) (none d ((from d (omega (arith, h, high))).0 l) h))
 next_of b a n None from none = λ d l.
-    elim (cases_lt d 257) [
-      | inl h ↦ free_client (by_number b.members d) (stack_of b.ledger d) (none d ((from d h).0 l) h)
-      | inr h ↦ ap (λ (o : Option Member). client_of o (stack_of b.ledger d)) (outside b.members d (omega (arith, h, b.places)))
-    ]
+    grind (arith, l, none d, from d, free_client (by_number b.members d) (stack_of b.ledger d), outside b.members d, b.places)
