@@ -34,6 +34,7 @@ module _ (K : Contest) where
   pub no_two : (n o : ℕ → ℕ) → ((c : ℕ) → K.low c ≤ n c) → ((c : ℕ) → K.low c ≤ o c) → ((c : ℕ) → n c ≤ K.cap c) → ((c : ℕ) → o c ≤ K.cap c) →
       Exchange n → Exchange o → (c d : ℕ) → n c < o c → o d < n d → ⊥
   no_two n o ln lo nc oc sn so c d h k =
+      -- d's last under n ranks above no next of d under o, that above no last of c under o, and that above no next of c under n
       let past_c = K.past d (n d) d (o d + 1) c (o c) in
       let past_d = K.past d (n d) c (o c) c (n c + 1) in
       grind (arith, ln c, lo d, nc d, oc c, so c d, K.asym c (o c) d (o d + 1), no_rise d (o d + 1) (n d), past_c, no_rise c (n c + 1) (o c), past_d, sn d c)

@@ -20,6 +20,7 @@ use Rattle.laws.proofs.Runs.{all_sound, contest_of, cap_is, held_fits, refused_s
 abbrev pub GetsNothing : Meaning → Broker → ℕ → Type 0
 GetsNothing m b c = (maximum_of b c ≤ holding b c) ⊎ IsOutbid m b c
 
+-- an ask refused as at the maximum, or as outbid, has met just that, and comes from a client that is admitted
 met : (m : Meaning) (b : Broker) (c : ℕ) (r : Refusal) → (r ≡ AtMaximum) ⊎ (r ≡ Outbid) → RefusedBy m b (Ask c) r → (Absent b c → ⊥) × GetsNothing m b c
 met m b c r w f = (λ none. grind arith, grind arith)
 

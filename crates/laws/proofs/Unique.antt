@@ -11,7 +11,7 @@ use Rattle.laws.proofs.Sums.{below_too}
 use Rattle.laws.proofs.Contest.{Contest, Can, no_two}
 
 module _ (m : Meaning) (l : Lawful m) (F : ℕ) (small : F ≤ 4_096) (cs : Clients) (s : AllAdmissible cs) where
-  -- a client that may have frames is one of these
+  -- who may have a frame is a client, with terms that a client may have
   pub admissible : (c : ℕ) → 1 ≤ capped F cs c → Admissible c (terms (cs c))
   admissible c h = go (cs c) refl h
     where

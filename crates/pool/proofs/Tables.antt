@@ -1,4 +1,4 @@
--- The table of clients, with one place changed.
+-- The table of clients and their stacks, with one client changed.
 use Rattle.std.proofs.Common.{◌≡◌, ℕ, suc, ◌≤◌, ◌≢◌, List, [], set, Some, None, Ok, Option, sym, refl, ap, ◌∙◌, arith}
 use mathlib.Core.Path.{fun_ext}
 use Rattle.std.proofs.lemmas.List.{get_or-set_same}
