@@ -1,8 +1,8 @@
 -- The worked examples, by computing.
-use Rattle.std.proofs.Common.{◌≡◌, ℕ, zero, suc, ◌+◌, ◌*◌, ◌<◌, ◌≤◌, min, Bool, true, false, cond, ◌&&◌, eqb, ltb, leb, [], ◌∷◌, length, None, codes, refl, arith}
+use Rattle.std.proofs.Common.{◌≡◌, ℕ, zero, suc, ◌+◌, ◌*◌, ◌<◌, ◌≤◌, min, Bool, true, false, cond, ◌&&◌, eqb, ltb, leb, ◌≢◌, [], ◌∷◌, length, None, codes, refl, ap, arith}
 use Rattle.std.proofs.lemmas.Fmt.{decimal_digit}
 use Rattle.std.proofs.lemmas.Bool.Decides.{nat_tests, Decides-below_and}
-use Rattle.rules.specs.Offers.{Meaning}
+use Rattle.rules.specs.Offers.{Meaning, Valid}
 use Rattle.rules.specs.Prices.{share}
 use Rattle.rules.specs.Rank.{above, ranks}
 use Rattle.rules.specs.declared.refusal.FaultKind.TheVariants as fault
@@ -13,7 +13,8 @@ use Rattle.events.specs.Faults.{Begins, fault_at}
 use Rattle.laws.specs.ByNumber.{upto, total}
 use Rattle.laws.specs.Division.{Clients, Settled, minimum_of, capped, bid_of}
 use Rattle.laws.specs.Broker.{Broker, present, shares_of, all_shares, MinimumsWithin}
-use Rattle.laws.specs.Cases.{three, trio, seven, HasFault, WorkedExamples}
+use Rattle.laws.specs.Calls.{HandBack, Leave}
+use Rattle.laws.specs.Cases.{three, trio, seven, hundred, quote, HasFault, WorkedExamples}
 
 -- a test of the numbers below n
 every : ℕ → (ℕ → Bool) → Bool
@@ -72,6 +73,10 @@ goes_on =
     let begins : Begins (codes "Q 3 ") Ask (3 ∷ []) (32 ∷ []) = record { whole = rw three_is; sized = omega arith; ended = refl } in
     (fault_at fault.Excess (length (spelled Ask (3 ∷ [])) + 1), Faults.no_end begins refl (λ e. cc), refl, rw three_is)
 
+at_four : Valid (hundred 0 None 4)
+at_four =
+    record { some_shares = omega arith; few_shares = omega arith; low_class = omega arith; small_active = λ a e. cc; some_frame = omega arith; few_frames = omega arith }
+
 pub worked_examples : WorkedExamples
 unfolding every between stands fits above ranks upto
 worked_examples =
@@ -87,6 +92,10 @@ worked_examples =
       proportional = (refl, refl, refl);
       within = within_by (seven 0) (λ c g. grind (arith, nat_tests)) refl;
       not_within = λ all. let beyond = all 3 in omega (arith, beyond);
+      tells_share = λ o v. refl;
+      taxed_differs = λ same. let e : ◌≡◌ {A = ℕ} 100 4 = ap (λ q. q.bottom) (same (hundred 0 None 4) at_four) in omega arith;
+      keeps = λ b. (λ a. (λ e. cc, λ e. cc), λ a. absurd a);
+      gives_up = λ b. (λ k. (k tt).0 refl, λ k. (k tt).1 refl);
       no_space = asks_nobody;
       no_end = goes_on;
     }

@@ -9,18 +9,21 @@
 -- seven             a broker with seven frames and clients 1, 2 and 3 with 500, 300 and 100 shares: a minimum for client 3
 -- HasFault          a line has its first fault of a kind, by its number, at a column
 -- WorkedExamples    the examples, all together
-use Rattle.std.specs.Prelude.{◌≡◌, ℕ, ◌+◌, cond, List, [], Some, None, codes, Option, ◌==◌}
+use Rattle.std.specs.Prelude.{◌≡◌, ℕ, ◌+◌, cond, List, [], Some, None, Ok, Err, codes, Option, ◌==◌}
 use Rattle.rules.specs.declared.offer.Offer.{Offer}
 use Rattle.rules.specs.declared.offer.Quote.{Quote}
 use Rattle.rules.specs.declared.offer.Terms.{Terms}
 use Rattle.rules.specs.declared.refusal.Fault.{Fault}
+use Rattle.rules.specs.declared.refusal.Refusal.TheVariants.{HoldsNoFrame}
 use Rattle.rules.specs.Numbers.{kind_number}
 use Rattle.rules.specs.Prices.{share, taxed, classed}
 use Rattle.events.specs.Faults.{FirstFault}
 use Rattle.laws.specs.ByNumber.{total}
 use Rattle.laws.specs.Division.{Clients, Settled}
 use Rattle.laws.specs.Broker.{Client, Broker, share_of, MinimumsWithin}
-use Rattle.laws.specs.Calls.{numbers}
+use Rattle.laws.specs.Calls.{HandBack, Leave, Frame, Count, numbers}
+use Rattle.laws.specs.Histories.{event, Keeps}
+use Rattle.laws.specs.Guarantees.{TellsShare}
 
 abbrev pub hundred : ℕ → Option ℕ → ℕ → Offer
 hundred class active count = record { shares = 100; class = class; active = active; count = count }
@@ -68,6 +71,13 @@ pub record WorkedExamples : Type 0 where
   -- without a minimum all are within their shares, and a minimum of 1 for client 3 is not
   pub within : MinimumsWithin (seven 0)
   pub not_within : MinimumsWithin (seven 1) → ⊥
+  -- the share price tells what it tells, and the taxed price does not
+  pub tells_share : TellsShare share
+  pub taxed_differs : TellsShare (taxed 75) → ⊥
+  -- client 1 keeps its frames while another hands one back, or its own hand-back is refused
+  pub keeps : (b : Broker) → Keeps 1 (event (HandBack 2) (Ok (Frame 5)) b) × Keeps 1 (event (HandBack 1) (Err HoldsNoFrame) b)
+  -- and not when it hands one back, or leaves
+  pub gives_up : (b : Broker) → (Keeps 1 (event (HandBack 1) (Ok (Frame 5)) b) → ⊥) × (Keeps 1 (event (Leave 1) (Ok (Count 2)) b) → ⊥)
   -- an ask without a client, and one that goes on after it
   pub no_space : HasFault (codes "Q") 2 2
   pub no_end : HasFault (codes "Q 3 ") 4 4
