@@ -26,7 +26,7 @@ fn main(rt: HostRuntime) -> anyhow::Result<()> {
     let mut out = BufWriter::new(rt.alloc(), rt.stdout())?;
     writeln!(
         out,
-        "call: under the share price; under the taxed price at 75; by class, then taxed at 75"
+        "call: under the share price; under the taxed price at 75; under the class price over it"
     )?;
     let mut play = Play {
         brokers: &mut brokers,

@@ -8,6 +8,9 @@ use thiserror::Error;
 /// Why no sheet is printed.
 #[derive(Clone, Copy, Debug, Drop, Error)]
 pub enum Fault {
+    /// An argument is no UTF-8.
+    #[error("The arguments have to be plain text.")]
+    Text,
     /// There are not three arguments.
     #[error("Give three arguments: a rate, an active count or -, and a length.")]
     Arguments,

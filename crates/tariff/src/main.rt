@@ -6,13 +6,23 @@ mod fault;
 mod listing;
 mod request;
 
+use fault::Fault;
 use listing::listing;
 use std::env;
+use std::io;
 use std::process::ExitCode;
+
+/// Why the arguments could not be read.
+fn unread(error: io::Error) -> Fault {
+    match error.kind() {
+        io::ErrorKind::InvalidData => Fault::Text,
+        _ => Fault::Memory,
+    }
+}
 
 fn run(rt: &HostRuntime) -> anyhow::Result<()> {
     let alloc = rt.alloc();
-    let words: Vec<String> = env::args(rt)?.skip(1).collect(alloc)?;
+    let words: Vec<String> = env::args(rt).map_err(unread)?.skip(1).collect(alloc)?;
     rt.print(listing(alloc, &words)?)?;
     Ok(())
 }
