@@ -1,7 +1,9 @@
 -- Every frame lies in exactly one stack, once.
-use Rattle.std.proofs.Common.{◌≡◌, ℕ, zero, suc, ◌+◌, ◌≤◌, cond, eqb, leb, List, [], ◌∷◌, ◌++◌, reverse, length, Some, None, Option, sym, refl, ap, ◌∙◌, subst, arith, Result}
+use Rattle.std.proofs.Common.{◌≡◌, ℕ, zero, suc, ◌+◌, ◌≤◌, cond, eqb, leb, List, [], ◌∷◌, ◌++◌, reverse, Some, None, Option, sym, refl, ap, ◌∙◌, subst, arith, Result}
 use mathlib.Core.List.{reverse_aux, reverse_aux-eq}
+use Rattle.std.specs.Prelude.{count_by}
 use Rattle.std.proofs.lemmas.Bool.Decides.{nat_tests}
+use Rattle.std.proofs.lemmas.List.Sums.{sum_by-cons, count_by-le-length}
 use Rattle.rules.specs.declared.call.Call.{Call}
 use Rattle.rules.specs.declared.call.Answer.{Answer}
 use Rattle.rules.specs.declared.refusal.Refusal.{Refusal}
@@ -11,26 +13,26 @@ use Rattle.laws.specs.Broker.{Broker, Client, new_broker, holding, stack_of}
 use Rattle.laws.specs.Calls
 use Rattle.laws.specs.Calls.{Step, newcomer, lasting, numbers, with_stack, with_estimate}
 use Rattle.laws.specs.Histories.{Event, Run, start, then}
-use Rattle.laws.specs.Laws.{times, FramesLieOnce}
+use Rattle.laws.specs.Laws.{FramesLieOnce}
 use Rattle.laws.proofs.Sums.{upto_same, upto_le, upto_zero}
 use Rattle.laws.proofs.Puts.{put_off, put_sum}
 use Rattle.laws.proofs.Kept.{Kept, inside, none_there, numbered, lasting_stack}
 use Rattle.laws.proofs.Runs.{ask_room, from_other, history_kept}
 
-times_back : (f : ℕ) (xs ys : List ℕ) → times f (reverse_aux xs ys) ≡ times f xs + times f ys
-unfolding times
-times_back f [] ys = omega arith
-times_back f (x ∷ xs) ys = omega (arith, times_back f xs (x ∷ ys))
+abbrev times : ℕ → List ℕ → ℕ
+times f xs = count_by (λ g. eqb f g) xs
 
-times_le : (f : ℕ) (xs : List ℕ) → times f xs ≤ length xs
-unfolding times
-times_le f [] = omega arith
-times_le f (x ∷ xs) = let h = times_le f xs in grind (arith, nat_tests)
+times_cons : (f g : ℕ) (xs : List ℕ) → times f (g ∷ xs) ≡ cond (eqb f g) 1 0 + times f xs
+times_cons f g xs = sum_by-cons (λ x. cond (eqb f x) 1 0) g xs
+
+times_back : (f : ℕ) (xs ys : List ℕ) → times f (reverse_aux xs ys) ≡ times f xs + times f ys
+times_back f [] ys = omega arith
+times_back f (x ∷ xs) ys = omega (arith, times_back f xs (x ∷ ys), times_cons f x xs, times_cons f x ys)
 
 times_numbers : (f i n : ℕ) → times f (numbers i n) ≡ cond (leb i f) (cond (leb f (i + n)) (cond (eqb f (i + n)) 0 1) 0) 0
-unfolding times numbers
+unfolding numbers
 times_numbers f i zero = grind (arith, nat_tests)
-times_numbers f i (suc n) = let h = times_numbers f (suc i) n in grind (arith, nat_tests)
+times_numbers f i (suc n) = times_cons f i (numbers (suc i) n) ∙ let h = times_numbers f (suc i) n in grind (arith, nat_tests)
 
 abbrev here : ℕ → Option Client → ℕ
 here f o = times f (stack_of o)
@@ -50,15 +52,12 @@ lies_put f free left cs c o i e = omega (arith, put_sum cs c o (λ o. here f o) 
 
 module _ (f : ℕ) (cs : ℕ → Option Client) (free : List ℕ) (c : ℕ) (x : Client) (e : cs c ≡ Some x) (i : Numbered c) where
   grant_lies : (g : ℕ) (gs : List ℕ) → free ≡ g ∷ gs → lies f gs (put cs c (Some (with_stack x (g ∷ x.stack)))) ≡ lies f free cs
-  unfolding times
-  grant_lies g gs q = lies_put f free gs cs c (Some (with_stack x (g ∷ x.stack))) i (omega (arith, ap (here f) e, ap (times f) q))
+  grant_lies g gs q = lies_put f free gs cs c (Some (with_stack x (g ∷ x.stack))) i (omega (arith, ap (here f) e, ap (times f) q, times_cons f g gs, times_cons f g x.stack))
 
   back_lies : (g : ℕ) (gs : List ℕ) → x.stack ≡ g ∷ gs → lies f (g ∷ free) (put cs c (Some (with_stack x gs))) ≡ lies f free cs
-  unfolding times
-  back_lies g gs q = lies_put f free (g ∷ free) cs c (Some (with_stack x gs)) i (omega (arith, ap (here f) e, ap (times f) q))
+  back_lies g gs q = lies_put f free (g ∷ free) cs c (Some (with_stack x gs)) i (omega (arith, ap (here f) e, ap (times f) q, times_cons f g gs, times_cons f g free))
 
   leave_lies : lies f (reverse x.stack ++ free) (put cs c None) ≡ lies f free cs
-  unfolding times
   leave_lies = lies_put f free (reverse x.stack ++ free) cs c None i (omega (arith, ap (here f) e, ap (times f) (reverse_aux-eq x.stack free), times_back f x.stack free))
 
 module _ (m : Meaning) (l : Lawful m) (f : ℕ) (b : Broker) (k : Kept b) (o : lies f b.free b.clients ≡ once b.frames f) where
@@ -69,7 +68,7 @@ module _ (m : Meaning) (l : Lawful m) (f : ℕ) (b : Broker) (k : Kept b) (o : l
   step_once x a d (Calls.refused r) = o
   step_once x a d (Calls.started {u = u} {F = F} clear) =
       let z : 1 ≤ b.frames → ⊥ = clear.1.0 in
-      let s = upto_le 256 (λ c. here f (b.clients c)) (holding b) (λ c i. times_le f (stack_of (b.clients c))) in
+      let s = upto_le 256 (λ c. here f (b.clients c)) (holding b) (λ c i. count_by-le-length (λ g. eqb f g) (stack_of (b.clients c))) in
       let n : total (λ c. here f (b.clients c)) ≡ 0 = omega (arith, k.all) in
       let t = times_numbers f 1 F in
       grind (arith, nat_tests)
@@ -93,7 +92,6 @@ module _ (m : Meaning) (l : Lawful m) (f : ℕ) (b : Broker) (k : Kept b) (o : l
       omega (arith, o, upto_same 256 (λ c. here f (lasting t (b.clients c))) (λ c. here f (b.clients c)) (λ c i. ap (times f) (lasting_stack t (b.clients c))))
 
 run_once : (m : Meaning) → Lawful m → (f : ℕ) (h : List Event) (b : Broker) → Run m new_broker h b → lies f b.free b.clients ≡ once b.frames f
-unfolding times
 run_once m l f h b start = let z = upto_zero 256 in grind (arith, nat_tests)
 run_once m l f h b (then {x = x} {a = a} {d = d} {h = k} r s) = step_once m l f d (history_kept m l k d r) (run_once m l f k d r) x a b s
 

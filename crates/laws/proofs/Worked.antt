@@ -1,5 +1,5 @@
 -- The worked examples, by computing.
-use Rattle.std.proofs.Common.{◌≡◌, ℕ, zero, suc, ◌+◌, ◌*◌, ◌<◌, ◌≤◌, min, Bool, true, false, cond, ◌&&◌, eqb, ltb, leb, ◌≢◌, [], ◌∷◌, length, None, codes, refl, ap, arith}
+use Rattle.std.proofs.Common.{◌≡◌, ℕ, zero, suc, ◌+◌, ◌*◌, ◌<◌, ◌≤◌, min, Bool, true, false, cond, ◌&&◌, eqb, ltb, leb, [], ◌∷◌, length, None, codes, refl, ap, arith}
 use Rattle.std.proofs.lemmas.Fmt.{decimal_digit}
 use Rattle.std.proofs.lemmas.Bool.Decides.{nat_tests, Decides-below_and}
 use Rattle.rules.specs.Offers.{Meaning, Valid}
@@ -13,8 +13,7 @@ use Rattle.events.specs.Faults.{Begins, fault_at}
 use Rattle.laws.specs.ByNumber.{upto, total}
 use Rattle.laws.specs.Division.{Clients, Settled, minimum_of, capped, bid_of}
 use Rattle.laws.specs.Broker.{Broker, present, shares_of, all_shares, MinimumsWithin}
-use Rattle.laws.specs.Calls.{HandBack, Leave}
-use Rattle.laws.specs.Cases.{three, trio, seven, hundred, quote, HasFault, WorkedExamples}
+use Rattle.laws.specs.Cases.{three, trio, seven, hundred, HasFault, WorkedExamples}
 
 -- a test of the numbers below n
 every : ℕ → (ℕ → Bool) → Bool

@@ -3,7 +3,6 @@
 -- DivisionIsUnique           no two different divisions of the same frames among the same clients are settled
 -- HistoriesKeepGuarantees    every history under a lawful price keeps the three guarantees
 -- FamiliesKeepGuarantees     so does each of several brokers alone
--- times                      how often a frame lies in a stack
 -- FramesLieOnce              every frame of the pool lies in exactly one stack, once, and nothing else lies in any
 -- OneAnswer                  a call on a broker has one answer, and leaves one broker
 -- EveryCallIsAnswered        a call that is not refused is accepted
@@ -11,7 +10,7 @@
 -- Asked                      a client has asked
 -- RestIsReached              where only asks and deliveries are accepted, accepted asks end and the broker comes to rest
 -- LowestPayerIsFound         there is one lowest payer, or none
-use Rattle.std.specs.Prelude.{◌≡◌, ℕ, ◌+◌, ◌≤◌, cond, ◌⊎◌, List, [], ◌∷◌, ◌++◌, Some, None, Option, Result, ◌==◌, nat_le}
+use Rattle.std.specs.Prelude.{◌≡◌, ℕ, ◌+◌, ◌≤◌, cond, ◌⊎◌, List, [], ◌∷◌, ◌++◌, count_by, Some, None, Option, Result, ◌==◌, nat_le}
 use Rattle.rules.specs.declared.refusal.Refusal.{Refusal}
 use Rattle.rules.specs.Offers.{Meaning, Lawful}
 use Rattle.rules.specs.Refusals.{Rising}
@@ -38,14 +37,10 @@ FamiliesKeepGuarantees =
     (ms : ℕ → Meaning) → ((i : ℕ) → Lawful (ms i)) → (h : List Tagged) (bs : Brokers) → FamilyRun ms (λ _. new_broker) h bs →
     (i : ℕ) → Run (ms i) new_broker (own i h) (bs i) × Guarantees (ms i) (own i h)
 
-unfoldable pub times : ℕ → List ℕ → ℕ
-times f [] = 0
-times f (g ∷ gs) = cond (f == g) 1 0 + times f gs
-
 abbrev pub FramesLieOnce : Type 0
 FramesLieOnce =
     (m : Meaning) → Lawful m → (h : List Event) (b : Broker) → Run m new_broker h b → (f : ℕ) →
-    total (λ c. times f (stack_of (b.clients c))) + times f b.free ≡ cond (nat_le 1 f) (cond (nat_le f b.frames) 1 0) 0
+    total (λ c. count_by (λ g. f == g) (stack_of (b.clients c))) + count_by (λ g. f == g) b.free ≡ cond (nat_le 1 f) (cond (nat_le f b.frames) 1 0) 0
 
 abbrev pub OneAnswer : Type 0
 OneAnswer =

@@ -1,9 +1,10 @@
 -- Stacks by links: how high they are, and what a write to one link leaves of them.
-use Rattle.std.proofs.Common.{◌≡◌, ℕ, zero, suc, ◌+◌, ◌<◌, ◌≤◌, List, [], ◌∷◌, length, get_or, set, sym, refl, ap, ◌∙◌, subst, inl, inr, arith}
+use Rattle.std.proofs.Common.{◌≡◌, ℕ, zero, suc, ◌+◌, ◌<◌, ◌≤◌, cond, eqb, List, [], ◌∷◌, length, get_or, set, sym, refl, ap, ◌∙◌, subst, inl, inr, arith}
+use Rattle.std.specs.Prelude.{count_by}
 use Rattle.std.proofs.lemmas.List.{get_or-set_other, get_or_past}
+use Rattle.std.proofs.lemmas.List.Sums.{sum_by-cons}
 use Rattle.std.proofs.lemmas.Bool.{cases_eq}
 use Rattle.std.proofs.lemmas.Bool.Decides.{nat_tests}
-use Rattle.ledger.specs.Stacks.{times}
 use Rattle.ledger.specs.Linked.{down, empty, stack}
 use Rattle.ledger.specs.Links.{stacks}
 use Rattle.ledger.specs.declared.links.Links.{Links}
@@ -25,11 +26,18 @@ stack_none below begun o e = ap (down below (get_or begun o empty).top) e
 pub stack_past : (below : List ℕ) (begun : List Stack) (o : ℕ) → length begun ≤ o → stack below begun o ≡ []
 stack_past below begun o h = stack_none below begun o (ap (λ s. s.height) (get_or_past begun o empty h))
 
+-- how often a frame lies in a stack
+abbrev pub times : ℕ → List ℕ → ℕ
+times f xs = count_by (λ g. eqb f g) xs
+
+pub times_cons : (f g : ℕ) (xs : List ℕ) → times f (g ∷ xs) ≡ cond (eqb f g) 1 0 + times f xs
+times_cons f g xs = sum_by-cons (λ x. cond (eqb f x) 1 0) g xs
+
 pub times_here : (f : ℕ) (xs : List ℕ) → times f (f ∷ xs) ≡ 1 + times f xs
-times_here f xs = grind (arith, nat_tests)
+times_here f xs = times_cons f f xs ∙ grind (arith, nat_tests)
 
 times_other : (f x : ℕ) (xs : List ℕ) → (f ≡ x → ⊥) → times f (x ∷ xs) ≡ times f xs
-times_other f x xs d = grind (arith, nat_tests)
+times_other f x xs d = times_cons f x xs ∙ grind (arith, nat_tests)
 
 -- a link that is not passed may change
 pub down_apart : (below : List ℕ) (f v g n : ℕ) → times f (down below g n) ≡ 0 → down (set below f v) g n ≡ down below g n

@@ -4,13 +4,13 @@ use Rattle.std.specs.List.{range_with_len}
 use Rattle.std.proofs.lemmas.List.{get_or-set_same, get_or-set_other, get_or_past}
 use Rattle.std.proofs.lemmas.List.Sums.{sum_by-set, get_or-le-sum_by}
 use Rattle.std.proofs.lemmas.Bool.Decides.{nat_tests}
-use Rattle.ledger.specs.Stacks.{times, pooled, Once, Filled}
+use Rattle.ledger.specs.Stacks.{pooled, Once, Filled}
 use Rattle.ledger.specs.Linked.{down, empty, stack, together, Sound}
 use Rattle.ledger.specs.Links.{many}
 use Rattle.ledger.specs.declared.links.Links.{Links}
 use Rattle.ledger.specs.declared.links.Stack.{Stack}
 use Rattle.ledger.proofs.Sums.{summed_none, summed_one}
-use Rattle.ledger.proofs.Downs.{stack_none}
+use Rattle.ledger.proofs.Downs.{times, times_cons, stack_none}
 
 -- frames linked each to the next
 down_next : (below : List ℕ) (a n : ℕ) → ((f : ℕ) → a ≤ f → f < a + n → get_or below f 0 ≡ f + 1) → down below a n ≡ range_with_len a n
@@ -20,7 +20,7 @@ down_next below a (suc n) h =
 
 times_counting : (f a n : ℕ) → times f (range_with_len a n) ≡ cond (leb a f) (cond (ltb f (a + n)) 1 0) 0
 times_counting f a zero = grind (arith, nat_tests)
-times_counting f a (suc n) = let r = times_counting f (a + 1) n in grind (arith, nat_tests)
+times_counting f a (suc n) = times_cons f a (range_with_len (a + 1) n) ∙ let r = times_counting f (a + 1) n in grind (arith, nat_tests)
 
 times_pooled : (f F : ℕ) → times f (range_with_len 1 F) ≡ pooled F f
 times_pooled f F = times_counting f 1 F ∙ grind (arith, nat_tests)

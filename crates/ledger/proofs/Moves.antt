@@ -3,18 +3,18 @@ use Rattle.std.proofs.Common.{◌≡◌, ℕ, suc, ◌+◌, ◌-◌, ◌<◌, �
 use Rattle.std.proofs.lemmas.List.{get_or-set_same, get_or-set_other, length-set}
 use Rattle.std.proofs.lemmas.List.Sums.{sum_by-set}
 use Rattle.std.proofs.lemmas.Bool.Decides.{nat_tests}
-use Rattle.ledger.specs.Stacks.{times, Once, Moved}
+use Rattle.ledger.specs.Stacks.{Once, Moved}
 use Rattle.ledger.specs.Linked.{down, empty, stack, together, Sound}
 use Rattle.ledger.specs.Links.{stacks, many}
 use Rattle.ledger.specs.declared.links.Links.{Links}
 use Rattle.ledger.specs.declared.links.Stack.{Stack}
 use Rattle.ledger.proofs.Sums.{one_in, two_in, shifted}
-use Rattle.ledger.proofs.Downs.{times_here, length_stack, stack_past, down_apart}
+use Rattle.ledger.proofs.Downs.{times, times_cons, times_here, length_stack, stack_past, down_apart}
 
 -- every frame stays in one stack, once
 moved_once : (s t : ℕ → List ℕ) (n F from to f : ℕ) → from < n → to < n → (from ≡ to → ⊥) → Moved s t from to f → Once s n F → Once t n F
 moved_once s t n F from to f lf lt d m once q =
-    shifted (λ o. times q (s o)) (λ o. times q (t o)) n from to (cond (eqb q f) 1 0) lf lt d (ap (times q) m.taken) (ap (times q) m.given) (λ o a b. ap (times q) (m.others o a b)) ∙ once q
+    shifted (λ o. times q (s o)) (λ o. times q (t o)) n from to (cond (eqb q f) 1 0) lf lt d (ap (times q) m.taken ∙ times_cons q f (t from)) (ap (times q) m.given ∙ times_cons q f (s to)) (λ o a b. ap (times q) (m.others o a b)) ∙ once q
 
 -- the frame on top of a stack
 module _ (v : Links) (from : ℕ) (is : from < 257) (high : 0 < length (stacks v from)) where
