@@ -5,7 +5,7 @@ use Rattle.rules.specs.Offers.{Meaning, Lawful}
 use Rattle.rules.specs.declared.offer.Bid.{Bid}
 use Rattle.rules.specs.Rank.{above, Above}
 use Rattle.rules.specs.Laws.{Made}
-use Rattle.rules.proofs.Ranked.{rank_is_one_line}
+use Rattle.rules.proofs.Ranked.{rank_is_one_order}
 use Rattle.laws.specs.Division.{terms, minimum_of, bid_of}
 use Rattle.laws.specs.Broker.{Broker, terms_of, new_broker, present, holding, Beyond, LowestPayer, MayTake, IsOutbid}
 use Rattle.laws.specs.Questions.{LowestIs}
@@ -82,8 +82,8 @@ module _ (m : Meaning) (v : Broker) where
       let far = lowest.beyond in
       let now = made (holding v c) (omega arith) (omega arith) in
       let next = made (holding v c + 1) (omega arith) few in
-      (rank_is_one_line m l).one_way (next_bid c) (bid c) next now g
-      ((rank_is_one_line m l).own_fall c (terms (present v c)) (holding v c) (holding v c + 1) now next (omega arith))
+      (rank_is_one_order m l).one_way (next_bid c) (bid c) next now g
+      ((rank_is_one_order m l).own_fall c (terms (present v c)) (holding v c) (holding v c + 1) now next (omega arith))
 
 -- what is listed of a client depends on that client alone
 pub same_lists : (m : Meaning) (v w : Broker) (c : ℕ) → w.clients c ≡ v.clients c → (o : Option Ranked) → Lists m v c o → Lists m w c o

@@ -1,4 +1,4 @@
--- Clients with fixed terms, whose bids stand in one line: all that divisions and runs need of the rank.
+-- Clients with fixed terms, whose bids stand in one order: all that divisions and runs need of the rank.
 use Rattle.std.proofs.Common.{◌≡◌, ℕ, ◌+◌, ◌<◌, ◌≤◌, Bool, true, false, ◌≢◌, ◌⊎◌, arith}
 use Rattle.laws.specs.ByNumber.{Numbered}
 

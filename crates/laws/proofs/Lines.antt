@@ -1,4 +1,4 @@
--- Numbers are in one line, by the test that the heaps of clients go by.
+-- Numbers are in one order, by the test that the heaps of clients go by.
 use Rattle.std.proofs.Common.{◌≡◌, ℕ, true, false, nat_le, arith}
 use Rattle.std.proofs.lemmas.Bool.Decides.{nat_tests}
 

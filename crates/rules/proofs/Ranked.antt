@@ -1,10 +1,10 @@
--- The rank is one line under every lawful price.
+-- The rank is one strict order under every lawful price.
 use Rattle.std.proofs.Common.{◌≡◌, ℕ, ◌*◌, ◌<◌, ◌≤◌, false, ◌⊎◌, mul-le-mul_right, nat_lt, arith, ltb-false, le-ltb}
 use native.Mathlib.Nat.{le_of_mul-le-mul_left}
 use Rattle.std.proofs.lemmas.Bool.Decides.{nat_tests}
 use Rattle.rules.specs.Offers.{Meaning, Lawful}
 use Rattle.rules.specs.Rank.{Bid, Terms, ranks, above, Above, by_minimum, by_fraction, told, offer_of, bid_at, tests}
-use Rattle.rules.specs.Laws.{Apart, Made, RankIsOneLine}
+use Rattle.rules.specs.Laws.{Apart, Made, RankIsOneOrder}
 use Rattle.rules.proofs.Separate.{Weak, Each, ranks_asym, ranks_past}
 
 -- fractions in a row, with a positive bottom in the middle
@@ -61,8 +61,8 @@ module _ (m : Meaning) where
       let f = l.falling (offer_of (bid_at c t j)) j k v w (omega arith) in
       grind (arith, nat_tests)
 
-pub rank_is_one_line : RankIsOneLine
-rank_is_one_line m l =
+pub rank_is_one_order : RankIsOneOrder
+rank_is_one_order m l =
     record {
       one_way = λ a b v w h k. let n = asym m a b (fair m l a v) (fair m l b w) h in cc;
       through = λ a b c u v w h k.

@@ -1,12 +1,12 @@
 -- What holds of the rank, of the prices and of the lists of refusals. Each law is demanded by a function of this crate and
 -- proved in proofs/.
 --
--- Made            the offer of a bid is one that a client can make
--- Apart           two bids are of different clients, or of different counts
--- RanksInLine     under a price the rank is one line, and falls with the count for each client
--- RankIsOneLine   so it is under every lawful price
--- PricesLawful    the prices are lawful
--- ListsRise       the numbers rise along the refusals of an offer, of a tax rate, of a sheet and of a buffer
+-- Made             the offer of a bid is one that a client can make
+-- Apart            two bids are of different clients, or of different counts
+-- RanksInOrder     under a price the rank is one strict order, and falls with the count for each client
+-- RankIsOneOrder   so it is under every lawful price
+-- PricesLawful     the prices are lawful
+-- ListsRise        the numbers rise along the refusals of an offer, of a tax rate, of a sheet and of a buffer
 use Rattle.std.specs.Prelude.{◌≡◌, ℕ, ◌<◌, ◌≤◌, Bool, ◌⊎◌}
 use Rattle.rules.specs.Offers.{Meaning, Valid, Lawful}
 use Rattle.rules.specs.Prices.{share, taxed, classed, one_of}
@@ -19,7 +19,7 @@ Made b = Valid (offer_of b)
 abbrev pub Apart : Bid → Bid → Type 0
 Apart a b = (a.client ≡ b.client) × (a.count ≡ b.count) → ⊥
 
-pub record RanksInLine (m : Meaning) : Type 0 where
+pub record RanksInOrder (m : Meaning) : Type 0 where
   -- no two bids rank above each other
   pub one_way : (a b : Bid) → Made a → Made b → Above m a b → Above m b a → ⊥
   -- what ranks above a bid ranks above all that this one ranks above
@@ -29,8 +29,8 @@ pub record RanksInLine (m : Meaning) : Type 0 where
   -- a client's bid at fewer frames ranks above its bid at more
   pub own_fall : (c : ℕ) (t : Terms) (j k : ℕ) → Made (bid_at c t j) → Made (bid_at c t k) → j < k → Above m (bid_at c t j) (bid_at c t k)
 
-abbrev pub RankIsOneLine : Type 0
-RankIsOneLine = (m : Meaning) → Lawful m → RanksInLine m
+abbrev pub RankIsOneOrder : Type 0
+RankIsOneOrder = (m : Meaning) → Lawful m → RanksInOrder m
 
 pub record PricesLawful : Type 0 where
   pub share_is : Lawful share

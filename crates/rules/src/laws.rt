@@ -1,9 +1,9 @@
 //! The laws of the rank, of the prices and of the lists of refusals. Each function does nothing: its contract is the law.
-ghost use Rattle.rules.specs.Laws.{RankIsOneLine, PricesLawful, ListsRise};
+ghost use Rattle.rules.specs.Laws.{RankIsOneOrder, PricesLawful, ListsRise};
 
-/// Under every lawful price the rank is one line, and falls with the count for each client.
-pub fn rank_is_one_line()
-    ensures { RankIsOneLine }
+/// Under every lawful price the rank is one strict order, and falls with the count for each client.
+pub fn rank_is_one_order()
+    ensures { RankIsOneOrder }
 {}
 
 /// The share, the taxed and the class price are lawful, and so is a price that is one of two lawful ones.
