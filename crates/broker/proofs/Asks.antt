@@ -17,13 +17,13 @@ use Rattle.pool.specs.declared.member.Member.{Member}
 use Rattle.pool.specs.Members.{offer_at}
 use Rattle.pool.specs.View.{height, Source, Grants}
 use Rattle.pool.specs.View as grants
-use Rattle.pool.proofs.Changes.{client_with}
+use Rattle.pool.proofs.Tables.{client_with, client_is}
 use Rattle.price.specs.declared.key.Ranked.{Ranked}
 use Rattle.price.specs.Keys.{Keyed, KeyOf, outranks, leads}
 use Rattle.broker.specs.Bids.{listed}
 use Rattle.broker.specs.View.{Broker, meaning, view}
 use Rattle.broker.proofs.Bids.{next_bid, outbid_by_nobody, lowest_is, next_ranks, is_outbid, not_itself}
-use Rattle.broker.proofs.Noted.{noted_client, noted_made}
+use Rattle.broker.proofs.Noted.{noted_made}
 
 -- the error that stands in for none
 pub error_is : {A E : Type 0} {e f : E} (o : Option A) → o ≡ None → Err f ≡ ok_or o e → f ≡ e
@@ -35,6 +35,11 @@ granted_step nobody (grants.free it top) (clear, (inl (z, some), ne)) = granted_
 granted_step nobody (grants.free it top) (clear, (inr (none, may), ne)) = cc
 granted_step nobody (grants.from off it its top) (clear, (inl (z, some), ne)) = cc
 granted_step {m} {v} nobody (grants.from off it its top) (clear, (inr (none, may), ne)) = subst (Step m v (Ask _) (Ok (Granted _))) (cc) (granted_from clear it none may its top)
+
+-- it opens the passage of its slip, and took no frame of its own
+pub granted_opens : {v : rules.Broker} {c p : ℕ} {s : SlipNumbers} {w : rules.Broker} → Grants v c p (Some s) w → p ≢ c → (w.passage ≡ Some s) × (s.former ≢ c)
+granted_opens (grants.free it top) ne = (refl, ne)
+granted_opens (grants.from off it its top) ne = (refl, ne)
 
 module _ {P : Type 0} {g : Ghosts P} (b : Broker P g) (c : ℕ) (clear : Clear (asker_entries (view b) c)) (none_free : length (view b).free ≡ 0) where
   abbrev m : Meaning
@@ -56,7 +61,7 @@ module _ {P : Type 0} {g : Ghosts P} (b : Broker P g) (c : ℕ) (clear : Clear (
 
     -- the asker, and how many frames it holds
     it : (view b).clients c ≡ Some (client_with x (stack_of b.pool.ledger c))
-    it = noted_client b.pool c x e
+    it = client_is b.pool c x e
 
     held : h ≡ holding (view b) c
     held = tall ∙ sym (ap held_of it)

@@ -10,7 +10,6 @@ use Rattle.ledger.proofs.Ledgers.{few_frames, holding_few, no_owner}
 use Rattle.pool.specs.declared.member.Member.{Member}
 use Rattle.pool.specs.declared.pool.Pool.{Pool}
 use Rattle.pool.specs.View.{view}
-use Rattle.pool.proofs.Changes.{client_with}
 
 -- no stack has more frames than a pool can have
 pub few_stacked : (b : Pool) (c : ℕ) → length (stack_of b.ledger c) ≤ 4_096
@@ -21,9 +20,6 @@ few_stacked b c =
     ]
 
 module _ (b : Pool) (c : ℕ) (x : Member) (e : by_number b.members c ≡ Some x) where
-  pub noted_client : (view b).clients c ≡ Some (client_with x (stack_of b.ledger c))
-  noted_client = rw e
-
   -- at every count of frames its bid can be made
   pub noted_made : (k : ℕ) → 1 ≤ k → k ≤ 4_096 → Made (bid_of (present (view b)) c k)
   noted_made k low high =

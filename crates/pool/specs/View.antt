@@ -7,9 +7,8 @@
 -- height       how many frames lie in a client's stack, and for 0 in the free stack
 -- Steps        a call on a pool is a step of the rules, under every price
 -- Source       where the frame of an ask may come from: the free stack, told as 0, or a client that has to give one up
--- lie_with     the frames of the free stack, told as 0, or of a client
+-- frames_at    the frames of the free stack, told as 0, or of a client
 -- Grants       the top frame of the free stack, told as 0, or of another client was granted, or there was none to grant
--- Opens        a frame granted from there opens the passage of its slip
 -- NextClient   the lowest number above another that an admitted client has, or none where no client has one
 use Rattle.std.specs.Prelude.{◌≡◌, ℕ, zero, suc, ◌<◌, ◌≢◌, ◌⊎◌, List, [], ◌∷◌, length, Some, None, Option, Result}
 use Rattle.rules.specs.Offers.{Meaning}
@@ -51,9 +50,9 @@ Steps b x a d = (m : Meaning) → Step m (view b) x a (view d)
 abbrev pub Source : Meaning → rules.Broker → ℕ → ℕ → Type 0
 Source m b c p = ((p ≡ 0) × (b.free ≢ [])) ⊎ ((b.free ≡ []) × MayTake m b c p)
 
-abbrev pub lie_with : rules.Broker → ℕ → List ℕ
-lie_with b zero = b.free
-lie_with b (suc p) = rules.stack_of (b.clients (suc p))
+abbrev pub frames_at : rules.Broker → ℕ → List ℕ
+frames_at b zero = b.free
+frames_at b (suc p) = rules.stack_of (b.clients (suc p))
 
 -- Whether the client may take the frame is for the caller to say, under its price: all this holds of every call.
 pub data Grants (b : rules.Broker) (c : ℕ) : ℕ → Option SlipNumbers → rules.Broker → Type 0 where
@@ -62,11 +61,7 @@ pub data Grants (b : rules.Broker) (c : ℕ) : ℕ → Option SlipNumbers → ru
   from : {p f : ℕ} {fs : List ℕ} {x y : rules.Client} → p ≢ c → b.clients c ≡ Some x → b.clients p ≡ Some y → y.stack ≡ f ∷ fs →
       Grants b c p (Some (slip b c f p)) (granted b c f p b.free (put (put b.clients p (Some (with_stack y fs))) c (Some (with_stack x (f ∷ x.stack)))))
   -- no frame goes onto the stack that it lies in
-  nothing : {p : ℕ} → (p ≢ c → lie_with b p ≡ []) → Grants b c p None b
-
-abbrev pub Opens : ℕ → Option SlipNumbers → rules.Broker → Type 0
-Opens p (Some s) d = (s.former ≡ p) × (d.passage ≡ Some s)
-Opens p None d = Unit {0}
+  nothing : {p : ℕ} → (p ≢ c → frames_at b p ≡ []) → Grants b c p None b
 
 abbrev pub NextClient : rules.Broker → ℕ → Option ℕ → Type 0
 NextClient b n (Some c) = (n < c) × (Absent b c → ⊥) × ((d : ℕ) → n < d → d < c → Absent b d)

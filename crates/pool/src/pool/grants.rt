@@ -2,7 +2,7 @@
 ghost use Rattle.std.specs.Prelude.{◌≡◌};
 ghost use Rattle.rules.specs.Refusals.{Replies};
 ghost use Rattle.laws.specs.Calls.{Absent, asker_entries, slip as slip-of};
-ghost use Rattle.pool.specs.View.{view, AdmittedAs, Grants, Opens};
+ghost use Rattle.pool.specs.View.{view, AdmittedAs, Grants};
 
 use super::Pool;
 use crate::member::Member;
@@ -40,8 +40,7 @@ impl Pool {
     // Kept: 0 is the free stack, as the owners of the ledger and the former owner in a slip's plain numbers have it.
     pub fn grant(&mut self, client: u32, from: u32) -> Option<SlipNumbers>
         requires { Absent (view self.old) client → ⊥ }
-        ensures grants { Grants (view self.old) client from result (view self.new) }
-        ensures opens { Opens from result (view self.new) }
+        ensures { Grants (view self.old) client from result (view self.new) }
     {
         let frame = self.ledger.move_top(from as usize, client as usize)?;
         let slip = self.next_slip(client, frame as u32, from);

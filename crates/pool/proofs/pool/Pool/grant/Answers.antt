@@ -5,14 +5,14 @@ use Rattle.pool.proofs.Views.{seen}
 use Rattle.pool.proofs.Grants.{grant_made, grant_none}
 use Rattle.pool.proofs.pool.Pool.grant.Goals as goal
 
-pub returns-in_err-frame-clause-grants : goal.returns-in_err-frame-clause-grants
-returns-in_err-frame-clause-grants c =
+pub returns-in_err-frame : goal.returns-in_err-frame
+returns-in_err-frame c =
     let b = c.args.self.now in
     let (same, empty) = c.in_err-frame.ensures.moved in
     rw c.from_residual.ensures (grant_none b c.args.client c.requires c.args.from (ap (seen b.unit b.tick b.asks b.passage b.members) same) empty)
 
-pub returns-clause-grants : goal.returns-clause-grants
-returns-clause-grants c =
+pub returns : goal.returns
+returns c =
     let b = c.args.self.now in
     let after : SlipNumbers → Broker = λ s. seen b.unit b.tick s.asks (Some s) b.members c.move_top.new.self in
     subst (λ (s : SlipNumbers). Grants (view b) c.args.client c.args.from (Some s) (after s)) (sym c.next_slip-slip.ensures)
