@@ -1,4 +1,4 @@
-pub mod PrintedPieces
+pub mod Decimals
 mod Holding
 mod Steps
 mod Asks

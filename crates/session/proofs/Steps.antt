@@ -13,7 +13,7 @@ use Rattle.broker.specs.declared.broker.Broker.{Broker}
 use Rattle.broker.specs.View.{meaning, view, Stepped}
 use Rattle.price.specs.declared.telling.Price.{Ghosts}
 use Rattle.session.specs.declared.printed.Printed.{Printed}
-use Rattle.session.specs.Session.{call_of, Performs, LinePerforms, Performed, Judged}
+use Rattle.session.specs.Session.{call_of, Performs, LinePerforms, Performed, LinePerformed}
 use Rattle.session.specs.Session as session
 
 -- an event whose call is refused
@@ -46,15 +46,15 @@ line_run run (session.performed v p) = performs_run run p
 line_run run (session.malformed v) = run
 
 module _ {P : Type 0} {g : Ghosts P} {text : List ℕ} {before after : Broker P g} where
-  judged : {r : Result Printed Refusal} →
+  line_performed : {r : Result Printed Refusal} →
       ((whole : List ℕ) → take 80 whole ≡ take 80 text → (calls : List history.Event) × LinePerforms (meaning before) (view before) whole r calls (view after)) →
-      after.price ≡ before.price → Judged before text r after
-  judged performs price = record { performs = performs; price = price; history = λ h calls whole led made. rw (meaning, price) (line_run led made) }
+      after.price ≡ before.price → LinePerformed before text r after
+  line_performed performs price = record { performs = performs; price = price; history = λ h calls whole led made. rw (meaning, price) (line_run led made) }
 
   -- a line that says an event
-  pub event_judged : {e : Event} {r : Result Printed Refusal} → ((whole : List ℕ) → take 80 whole ≡ take 80 text → Verdict whole (Ok e)) → Performed before e r after → Judged before text r after
-  event_judged verdict p = judged (λ whole same. (p.performs.0, session.performed (verdict whole same) p.performs.1)) p.price
+  pub event_performed : {e : Event} {r : Result Printed Refusal} → ((whole : List ℕ) → take 80 whole ≡ take 80 text → Verdict whole (Ok e)) → Performed before e r after → LinePerformed before text r after
+  event_performed verdict p = line_performed (λ whole same. (p.performs.0, session.performed (verdict whole same) p.performs.1)) p.price
 
 -- a malformed line
-pub fault_judged : {P : Type 0} {g : Ghosts P} {b : Broker P g} {text : List ℕ} {r : Refusal} → ((whole : List ℕ) → take 80 whole ≡ take 80 text → Verdict whole (Err r)) → Judged b text (Err r) b
-fault_judged verdict = judged (λ whole same. ([], session.malformed (verdict whole same))) refl
+pub fault_told : {P : Type 0} {g : Ghosts P} {b : Broker P g} {text : List ℕ} {r : Refusal} → ((whole : List ℕ) → take 80 whole ≡ take 80 text → Verdict whole (Err r)) → LinePerformed b text (Err r) b
+fault_told verdict = line_performed (λ whole same. ([], session.malformed (verdict whole same))) refl

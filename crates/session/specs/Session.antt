@@ -1,18 +1,18 @@
 -- What is printed of an event line that is performed on a broker.
 --
 -- Broker, meaning, view, Led   a broker, what its price tells, as the rules speak of it, with the calls that led to it
--- Event          what a line says
--- call_of        the call that an event makes
--- taken_of       from whom a frame was taken, and its price at its holding before the loss; nobody's where it was free
--- grant_of       what is printed of a slip: the asker's price at its holding with the new frame, and from whom it came
--- Performs       what is printed of an event on a broker, or its refusal; the calls that it made, the latest first; and the
---                broker after them
--- LinePerforms   the same of a line
--- numbered       what is printed, with the number of the line: a refusal is told with it
--- LinePrints     what is printed of a line with its number, the calls that it made, and the broker after them
--- Performed      an event on a broker in the code
--- Judged         a line on a broker in the code
--- Lined          a line with its number on a broker in the code
+-- Event           what a line says
+-- call_of         the call that an event makes
+-- taken_of        from whom a frame was taken, and its price at its holding before the loss; nobody's where it was free
+-- grant_of        what is printed of a slip: the asker's price at its holding with the new frame, and from whom it came
+-- Performs        what is printed of an event on a broker, or its refusal; the calls that it made, the latest first; and the
+--                 broker after them
+-- LinePerforms    the same of a line
+-- numbered        what is printed, with the number of the line: a refusal is told with it
+-- LinePrints      what is printed of a line with its number, the calls that it made, and the broker after them
+-- Performed       an event on a broker in the code
+-- LinePerformed   a line on a broker in the code
+-- Lined           a line with its number on a broker in the code
 use Rattle.std.specs.Prelude.{◌≡◌, ℕ, zero, suc, List, [], ◌∷◌, ◌++◌, take, Some, None, Ok, Err, Option, Result}
 use Rattle.rules.specs.Offers.{Meaning}
 use Rattle.rules.specs.declared.refusal.Refusal.{Refusal}
@@ -88,7 +88,7 @@ pub record Performed {P : Type 0} {g : Ghosts P} (before : Broker P g) (e : Even
   pub price : after.price ≡ before.price
 
 -- Of a line the first 80 bytes decide, so any line that begins with them is performed alike.
-pub record Judged {P : Type 0} {g : Ghosts P} (before : Broker P g) (text : List ℕ) (r : Result Printed Refusal) (after : Broker P g) : Type 0 where
+pub record LinePerformed {P : Type 0} {g : Ghosts P} (before : Broker P g) (text : List ℕ) (r : Result Printed Refusal) (after : Broker P g) : Type 0 where
   pub performs : (whole : List ℕ) → take 80 whole ≡ take 80 text →
       (calls : List history.Event) × LinePerforms (meaning before) (view before) whole r calls (view after)
   pub price : after.price ≡ before.price
@@ -96,4 +96,4 @@ pub record Judged {P : Type 0} {g : Ghosts P} (before : Broker P g) (text : List
   pub history : (h calls : List history.Event) (whole : List ℕ) → Led h before → LinePerforms (meaning before) (view before) whole r calls (view after) → Led (calls ++ h) after
 
 abbrev pub Lined : {P : Type 0} {g : Ghosts P} → ℕ → Broker P g → List ℕ → Printed → Broker P g → Type 0
-Lined n before text p after = (r : Result Printed Refusal) × (p ≡ numbered n r) × Judged before text r after
+Lined n before text p after = (r : Result Printed Refusal) × (p ≡ numbered n r) × LinePerformed before text r after

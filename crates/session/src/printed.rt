@@ -1,5 +1,5 @@
 //! The lines that a broker's program prints, each as a value.
-#![tactic(auto, using(crate::proofs::PrintedPieces::behind))]
+#![tactic(auto, using(text::proofs::Cuts::joined))]
 
 ghost use Rattle.session.specs.Printed.{printed_line};
 

@@ -19,10 +19,6 @@ cut_cut bs more =
       | inr h ↦ rw (take-append-le 128 bs more h, take-append-le 128 (take 128 bs) more (omega (arith, length-take-le 128 bs h))) (take-take 128 128 bs (omega arith))
     ]
 
--- two pieces, one after the other
-pub cut_pieces : (bs one two mid : List ℕ) → mid ≡ cut (bs ++ one) → cut (mid ++ two) ≡ cut (bs ++ (one ++ two))
-cut_pieces bs one two mid e = rw (e, cut_cut, append_assoc)
-
 -- as many bytes more as there is room for
 pub kept_front : (bs more : List ℕ) (room k : ℕ) → room + length bs ≡ 128 → k ≡ min (length more) room → bs ++ take k more ≡ cut (bs ++ more)
 unfolding cut

@@ -1,5 +1,5 @@
 //! The parts of printed lines: words with a number or a quote behind them.
-#![tactic(auto, using(crate::proofs::PrintedPieces::behind, crate::proofs::PrintedPieces::decimal_short))]
+#![tactic(auto, using(text::proofs::Cuts::joined, crate::proofs::Decimals::decimal_short))]
 
 ghost use Rattle.std.specs.Prelude.{◌≡◌, ◌≤◌, ◌++◌, length, decimal};
 ghost use Rattle.session.specs.Printed.{field, priced, quoted};

@@ -40,7 +40,7 @@ impl<P: Price> Session<P> {
     }
 
     /// What is printed of a slip just granted.
-    fn grant(&self, slip: SlipNumbers) -> Grant
+    fn printed_grant(&self, slip: SlipNumbers) -> Grant
         requires { HasPrice (view self.now.broker) slip.client 0 × Lost (view self.now.broker) slip.former }
         ensures { result ≡ grant_after (meaning self.now.broker) (view self.now.broker) slip }
     {
@@ -57,7 +57,7 @@ impl<P: Price> Session<P> {
         ensures { Performed self.old.broker (Ask client) result self.new.broker }
     {
         let slip = self.broker.ask(client)?;
-        let grant = self.grant(slip.numbers());
+        let grant = self.printed_grant(slip.numbers());
         self.broker.deliver(slip).unwrap();
         Ok(Printed::Grant(grant))
     }

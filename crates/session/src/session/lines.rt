@@ -2,7 +2,7 @@
 ghost use Rattle.std.specs.Prelude.{◌≡◌};
 ghost use Rattle.laws.specs.Broker.{new_broker};
 ghost use Rattle.broker.specs.View.{meaning, view, Guaranteed};
-ghost use Rattle.session.specs.Session.{numbered as told, Performed, Judged, Lined};
+ghost use Rattle.session.specs.Session.{numbered as told, Performed, LinePerformed, Lined};
 
 use super::Session;
 use crate::printed::Printed;
@@ -68,8 +68,8 @@ impl<P: Price> Session<P> {
     }
 
     /// Performs the event that a line says. A malformed line changes nothing.
-    fn judge(&mut self, line: &[u8]) -> Result<Printed, Refusal>
-        ensures { Judged self.old.broker line.now result self.new.broker }
+    fn perform_line(&mut self, line: &[u8]) -> Result<Printed, Refusal>
+        ensures { LinePerformed self.old.broker line.now result self.new.broker }
     {
         let event = read(line)?;
         self.perform(event)
@@ -80,6 +80,6 @@ impl<P: Price> Session<P> {
     pub fn line(&mut self, number: u64, line: &[u8]) -> Printed
         ensures { Lined number self.old.broker line.now result self.new.broker }
     {
-        numbered(number, self.judge(line))
+        numbered(number, self.perform_line(line))
     }
 }

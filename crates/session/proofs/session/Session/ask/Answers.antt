@@ -11,9 +11,9 @@ returns-in_err-slip g c =
 pub unwrap-requires : goal.unwrap-requires
 unwrap-requires g c = delivers c.deliver.result c.in_ok-slip.ensures.opens.0 c.deliver.ensures.step
 
-pub grant-grant-requires : goal.grant-grant-requires
-grant-grant-requires g c = rw c.numbers.ensures (has_prices c.in_ok-slip.ensures.step c.in_ok-slip.ensures.opens)
+pub printed_grant-grant-requires : goal.printed_grant-grant-requires
+printed_grant-grant-requires g c = rw c.numbers.ensures (has_prices c.in_ok-slip.ensures.step c.in_ok-slip.ensures.opens)
 
 pub returns : goal.returns
 returns g c =
-    ask_printed c.in_ok-slip.ensures.step c.in_ok-slip.ensures.opens (rw c.unwrap.ensures at c.deliver.ensures.step) (rw c.numbers.ensures at c.grant-grant.ensures)
+    ask_printed c.in_ok-slip.ensures.step c.in_ok-slip.ensures.opens (rw c.unwrap.ensures at c.deliver.ensures.step) (rw c.numbers.ensures at c.printed_grant-grant.ensures)
