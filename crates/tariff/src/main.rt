@@ -8,9 +8,8 @@ mod request;
 
 use fault::Fault;
 use listing::listing;
-use std::env;
-use std::io;
 use std::process::ExitCode;
+use std::{env, io};
 
 /// Why the arguments could not be read.
 fn unread(error: io::Error) -> Fault {
