@@ -4,20 +4,21 @@ use Rattle.std.specs.Option.{ok_or}
 use Rattle.std.proofs.lemmas.List.{nil_from_length}
 use Rattle.rules.specs.Offers.{Meaning}
 use Rattle.rules.specs.Refusals.{First, Clear}
-use Rattle.rules.specs.declared.refusal.Refusal.TheVariants.{Outbid}
+use Rattle.rules.specs.declared.refusal.Refusal.TheVariants.{AtMaximum, Outbid}
+use Rattle.rules.proofs.Named.{cleared, clear_after, first_after}
 use Rattle.laws.specs.ByNumber.{by_number}
 use Rattle.laws.specs.Broker as rules
 use Rattle.laws.specs.Broker.{SlipNumbers, holding, LowestPayer, MayTake, IsOutbid}
-use Rattle.laws.specs.Calls.{Ask, Granted, Step, entries, asker_entries, IsClear, granted_free, granted_from}
+use Rattle.laws.specs.Calls.{Ask, Granted, Step, accepted, entries, unpriced, priced, IsClear, granted_free, granted_from}
 use Rattle.laws.proofs.Kept.{low_of, high_of, held_of}
 use Rattle.ledger.specs.Ledgers.{stack_of}
 use Rattle.heap.specs.Heaps.{Least}
 use Rattle.price.specs.declared.telling.Price.{Ghosts}
 use Rattle.pool.specs.declared.member.Member.{Member}
 use Rattle.pool.specs.Members.{offer_at}
-use Rattle.pool.specs.View.{height, Source, Grants}
+use Rattle.pool.specs.View.{client_with, height, Source, Grants}
 use Rattle.pool.specs.View as grants
-use Rattle.pool.proofs.Tables.{client_with, client_is}
+use Rattle.pool.proofs.Tables.{client_is}
 use Rattle.price.specs.declared.key.Ranked.{Ranked}
 use Rattle.price.specs.Keys.{Keyed, KeyOf, outranks, leads}
 use Rattle.broker.specs.Bids.{listed}
@@ -31,17 +32,17 @@ error_is {A} {E} {e} {f} o none h = let same = rw none at h in cc
 
 -- a frame that was granted from where it may come from is a step
 pub granted_step : {m : Meaning} {v : rules.Broker} {c p : ℕ} {s : SlipNumbers} {w : rules.Broker} → v.clients 0 ≡ None → Grants v c p (Some s) w → IsClear m v (Ask c) × (Source m v c p × (p ≢ c)) → Step m v (Ask c) (Ok (Granted s)) w
-granted_step nobody (grants.free it top) (clear, (inl (z, some), ne)) = granted_free clear it top
+granted_step nobody (grants.free it top) (clear, (inl (z, some), ne)) = accepted clear (granted_free it top)
 granted_step nobody (grants.free it top) (clear, (inr (none, may), ne)) = cc
 granted_step nobody (grants.from off it its top) (clear, (inl (z, some), ne)) = cc
-granted_step {m} {v} nobody (grants.from off it its top) (clear, (inr (none, may), ne)) = subst (Step m v (Ask _) (Ok (Granted _))) (cc) (granted_from clear it none may its top)
+granted_step {m} {v} nobody (grants.from off it its top) (clear, (inr (none, may), ne)) = subst (Step m v (Ask _) (Ok (Granted _))) (cc) (accepted clear (granted_from it none may its top))
 
 -- it opens the passage of its slip, and took no frame of its own
 pub granted_opens : {v : rules.Broker} {c p : ℕ} {s : SlipNumbers} {w : rules.Broker} → Grants v c p (Some s) w → p ≢ c → (w.passage ≡ Some s) × (s.former ≢ c)
 granted_opens (grants.free it top) ne = (refl, ne)
 granted_opens (grants.from off it its top) ne = (refl, ne)
 
-module _ {P : Type 0} {g : Ghosts P} (b : Broker P g) (c : ℕ) (clear : Clear (asker_entries (view b) c)) (none_free : length (view b).free ≡ 0) where
+module _ {P : Type 0} {g : Ghosts P} (b : Broker P g) (c : ℕ) (clear : Clear (unpriced (view b) (Ask c))) (none_free : length (view b).free ≡ 0) where
   abbrev m : Meaning
   m = meaning b
 
@@ -50,7 +51,7 @@ module _ {P : Type 0} {g : Ghosts P} (b : Broker P g) (c : ℕ) (clear : Clear (
 
   -- a client that is refused for nothing else is outbid
   last_refused : IsOutbid m (view b) c → First (entries m (view b) (Ask c)) Outbid
-  last_refused o = inr (clear.0, inr (clear.1.0, inr (clear.1.1.0, inr (clear.1.1.1.0, inl (o, refl)))))
+  last_refused o = first_after (unpriced (view b) (Ask c)) (priced m (view b) (Ask c)) Outbid clear (inl (o, refl))
 
   pub nobody_lower : ((o : ℕ) → listed b.payers o ≡ None) → First (entries m (view b) (Ask c)) Outbid
   nobody_lower none = last_refused (outbid_by_nobody m (view b) (listed b.payers) b.kept none c free)
@@ -71,9 +72,9 @@ module _ {P : Type 0} {g : Ghosts P} (b : Broker P g) (c : ℕ) (clear : Clear (
 
     from_payer : MayTake m (view b) c k.client → From
     from_payer may =
-        let few : holding (view b) c + 1 ≤ 4_096 = omega (arith, clear.1.1.1.0, ap high_of it, x.few_frames) in
+        let few : holding (view b) c + 1 ≤ 4_096 = omega (arith, cleared (unpriced (view b) (Ask c)) AtMaximum clear, ap high_of it, x.few_frames) in
         let other : k.client ≢ c = λ q. not_itself m (view b) (g.lawful b.price) c (noted_made b.pool c x e) few (rw q at may) in
-        (assumption (λ (o : IsOutbid m (view b) c). o.1 k.client may), (inr (free, may), other))
+        (clear_after (unpriced (view b) (Ask c)) (priced m (view b) (Ask c)) clear (λ o. o.1 k.client may, tt), (inr (free, may), other))
 
     -- below its minimum a client takes a frame of the lowest payer
     pub taken_below : h < x.minimum → From

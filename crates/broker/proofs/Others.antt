@@ -2,11 +2,13 @@
 use Rattle.std.proofs.Common.{◌≡◌, ℕ, ◌≢◌, Some, None, Option, Ok, Err, Result, refl, ap, ◌∙◌, arith}
 use Rattle.rules.specs.Offers.{Meaning}
 use Rattle.rules.specs.declared.refusal.Refusal.{Refusal}
+use Rattle.rules.specs.declared.refusal.Refusal.TheVariants.{AlreadyAdmitted}
 use Rattle.rules.specs.declared.call.Admission.{Admission}
 use Rattle.laws.specs.Broker as rules
 use Rattle.laws.specs.Broker.{SlipNumbers}
 use Rattle.laws.specs.Calls
 use Rattle.laws.specs.Calls.{Step, Call, Start, Admit, Ask, Deliver, HandBack, Leave, SetEstimate, SetClock, Answer, Granted}
+use Rattle.laws.proofs.Refused.{denied}
 use Rattle.laws.proofs.Kept.{held_of}
 use Rattle.laws.proofs.Puts.{each_but, put_at, put_off}
 use Rattle.price.specs.declared.key.Ranked.{Ranked}
@@ -32,12 +34,12 @@ Spares (SetClock t) (Ok a) d = ⊥
 
 step_others : {m : Meaning} {b : rules.Broker} {x : Call} {a : Result Answer Refusal} {w : rules.Broker} → Step m b x a w → (d : ℕ) → Spares x a d → w.clients d ≡ b.clients d
 step_others (Calls.refused q) d o = refl
-step_others (Calls.started s) d o = refl
-step_others (Calls.delivered s) d o = refl
-step_others (Calls.clocked s) d o = absurd o
-step_others (Calls.granted_free s g h) d o = put_off _ _ _ d o.0
-step_others (Calls.granted_from s g h k l n) d o = put_off _ _ _ d o.0 ∙ put_off _ _ _ d o.1
-step_others s d o = put_off _ _ _ d o
+step_others (Calls.accepted s Calls.started) d o = refl
+step_others (Calls.accepted s Calls.delivered) d o = refl
+step_others (Calls.accepted s Calls.clocked) d o = absurd o
+step_others (Calls.accepted s (Calls.granted_free g h)) d o = put_off _ _ _ d o.0
+step_others (Calls.accepted s (Calls.granted_from g h k l n)) d o = put_off _ _ _ d o.0 ∙ put_off _ _ _ d o.1
+step_others (Calls.accepted s e) d o = put_off _ _ _ d o
 
 -- whom a call spares it leaves listed
 pub spared : {P : Type 0} {g : Ghosts P} (b : Broker P g) {x : Call} {a : Result Answer Refusal} {w : rules.Broker} → Step (meaning b) (view b) x a w → (d : ℕ) → Spares x a d → Lists (meaning b) w d (listed b.payers d)
@@ -52,9 +54,9 @@ asked_listed b {c} {s} {w} {p} step r t =
 -- a client that is admitted holds nothing, and was not listed before
 pub admitted_listed : {P : Type 0} {g : Ghosts P} (b : Broker P g) {x : Admission} {a : Result Answer Refusal} {w : rules.Broker} → Step (meaning b) (view b) (Admit x) a w → Listed (meaning b) w (listed b.payers)
 admitted_listed b (Calls.refused q) = b.kept
-admitted_listed b {x} {a} {w} (Calls.admitted clear) =
-    each_but x.client (λ d. Lists (meaning b) w d (listed b.payers d)) (fresh (listed b.payers x.client) (b.kept x.client)) (spared b (Calls.admitted clear))
+admitted_listed b {x} {a} {w} (Calls.accepted clear Calls.admitted) =
+    each_but x.client (λ d. Lists (meaning b) w d (listed b.payers d)) (fresh (listed b.payers x.client) (b.kept x.client)) (spared b (Calls.accepted clear Calls.admitted))
   where
     fresh : (o : Option Ranked) → Lists (meaning b) (view b) x.client o → Lists (meaning b) w x.client o
     fresh None _ = rw put_at (omega arith)
-    fresh (Some j) was = absurd (clear.1.1.1.1.1.0 (λ none. omega (arith, was.0, ap held_of none)))
+    fresh (Some j) was = absurd (denied (meaning b) (view b) (Admit x) AlreadyAdmitted clear (λ none. omega (arith, was.0, ap held_of none)))

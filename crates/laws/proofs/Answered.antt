@@ -1,5 +1,5 @@
 -- Every call on a broker that a history leads to is answered: refused by the first entry that it meets, else accepted.
-use Rattle.std.proofs.Common.{◌≡◌, ℕ, ◌+◌, ◌<◌, true, ◌⊎◌, List, [], ◌∷◌, length, Some, None, Option, refl, ap, ◌∙◌, subst, inl, inr, arith, Err, Result}
+use Rattle.std.proofs.Common.{◌≡◌, ℕ, ◌+◌, ◌<◌, true, ◌⊎◌, List, [], ◌∷◌, length, Some, None, Option, refl, ap, ◌∙◌, subst, inl, inr, arith, Ok, Err, Result}
 use mathlib.Core.Bool.{Bool-discrete}
 use mathlib.Core.Logic.Dec
 use native.Mathlib.Decide.{ℕ_discrete, dec_le, dec_lt, map_dec}
@@ -8,19 +8,20 @@ use Rattle.rules.specs.declared.call.Call.{Call}
 use Rattle.rules.specs.declared.call.Call.TheVariants.{Start, Admit, Ask, Deliver, HandBack, Leave, SetEstimate, SetClock}
 use Rattle.rules.specs.declared.call.Answer.{Answer}
 use Rattle.rules.specs.declared.refusal.Refusal.{Refusal}
+use Rattle.rules.specs.declared.refusal.Refusal.TheVariants.{NotAdmitted, Outbid, HoldsNoFrame}
 use Rattle.rules.specs.Offers.{Meaning, Lawful}
 use Rattle.rules.specs.Rank.{above}
 use Rattle.rules.specs.Refusals.{Entry, First, Clear, Outside}
-use Rattle.laws.specs.ByNumber.{total}
 use Rattle.laws.specs.Division.{minimum_of, bid_of}
-use Rattle.laws.specs.Broker.{Broker, holding, maximum_of, present, MayTake, IsOutbid}
+use Rattle.laws.specs.Broker.{Broker, holding, present, MayTake, IsOutbid}
 use Rattle.laws.specs.Calls
-use Rattle.laws.specs.Calls.{Step, IsClear, entries}
+use Rattle.laws.specs.Calls.{Effect, Step, IsClear, entries}
 use Rattle.laws.specs.Questions.{LowestIs}
 use Rattle.laws.specs.Laws.{EveryCallIsAnswered, LowestPayerIsFound}
 use Rattle.laws.proofs.Sums.{below_or_not}
 use Rattle.laws.proofs.Payer.{payer}
 use Rattle.laws.proofs.One.{one_payer}
+use Rattle.laws.proofs.Refused.{denied}
 use Rattle.laws.proofs.Kept.{Kept, held_of, none_some, some_there}
 use Rattle.laws.proofs.Runs.{contest_of, held_fits, history_kept}
 
@@ -38,6 +39,9 @@ dec_or : {A B : Type 0} → Dec A → Dec B → Dec (A ⊎ B)
 dec_or (yes a) e = yes (inl a)
 dec_or (no a) (yes b) = yes (inr b)
 dec_or (no a) (no b) = no (λ u. elim u [ inl x ↦ a x | inr y ↦ b y ])
+
+not_dec : {A : Type 0} → Dec A → Dec (A → ⊥)
+not_dec d = Dec.not d
 
 dec_none : {A : Type 0} (o : Option A) → Dec (o ≡ None)
 dec_none (Some a) = no (λ e. none_some e refl)
@@ -101,46 +105,39 @@ module _ (m : Meaning) (l : Lawful m) (b : Broker) (k : Kept b) where
   absent c = dec_none (b.clients c)
 
   decided : (x : Call) → Decided (entries m b x)
-  decided (Start u F) = (dec_or (dec_outside 1 4_096 F) (dec_outside 1 999 u), (dec_le 1 b.frames, tt))
-  decided (Admit a) =
-      (dec_outside 1 256 a.client, (dec_outside 1 1_000_000 a.shares, (dec_lt 9 a.class, (dec_or (ℕ_discrete a.maximum 0) (dec_lt a.maximum a.minimum), (closed, (Dec.not (absent a.client), (dec_lt b.frames a.maximum, (dec_lt b.frames (total (minimum_of (present b)) + a.minimum), tt))))))))
-  decided (Ask c) = (dec_outside 1 256 c, (closed, (absent c, (dec_le (maximum_of b c) (holding b c), (dec_outbid c, tt)))))
-  decided (Deliver s) = (Dec.not (dec_this b.passage s), tt)
-  decided (HandBack c) = (dec_outside 1 256 c, (closed, (absent c, (ℕ_discrete (holding b c) _, tt))))
-  decided (Leave c) = (dec_outside 1 256 c, (closed, (absent c, tt)))
-  decided (SetEstimate c e) = (dec_outside 1 256 c, (closed, (absent c, (dec_lt b.frames e.active, (dec_le e.end b.tick, tt)))))
-  decided (SetClock t) = (closed, (dec_lt t b.tick, tt))
+  decided (Leave c) = search (dec_or, dec_lt, dec_le, dec_none, ℕ_discrete, not_dec, dec_this, dec_outbid)
+  decided x = search (dec_or, dec_lt, dec_le, dec_none, ℕ_discrete, not_dec, dec_this, dec_outbid)
 
   abbrev Answers : Call → Type 0
-  Answers x = (a : Result Answer Refusal) × (d : Broker) × Step m b x a d
+  Answers x = (a : Answer) × (d : Broker) × Effect m b x a d
 
   asks : (c : ℕ) → IsClear m b (Ask c) → Answers (Ask c)
   asks c clear = go b.free refl (taking c)
     where
       go : (fs : List ℕ) → b.free ≡ fs → Taking c → Answers (Ask c)
-      go (f ∷ fs) e t = let (x, i) = some_there (b.clients c) clear.1.1.0 in (_, _, Calls.granted_free clear i e)
-      go [] e (inr f) = absurd (clear.1.1.1.1.0 (e, f))
+      go (f ∷ fs) e t = let (x, i) = some_there (b.clients c) (denied m b (Ask c) NotAdmitted clear) in (_, _, Calls.granted_free i e)
+      go [] e (inr f) = absurd (denied m b (Ask c) Outbid clear (e, f))
       go [] e (inl (p, t)) =
-          let (x, i) = some_there (b.clients c) clear.1.1.0 in
+          let (x, i) = some_there (b.clients c) (denied m b (Ask c) NotAdmitted clear) in
           let (y, j) = some_there (b.clients p) (λ n. omega (arith, t.0.beyond, ap held_of n)) in
           let (f, gs, q) = top_of y.stack (λ n. omega (arith, t.0.beyond, ap held_of j)) in
-          (_, _, Calls.granted_from clear i e t j q)
+          (_, _, Calls.granted_from i e t j q)
 
   accepted : (x : Call) → IsClear m b x → Answers x
-  accepted (Start u F) clear = (_, _, Calls.started clear)
-  accepted (Admit a) clear = (_, _, Calls.admitted clear)
+  accepted (Start u F) clear = (_, _, Calls.started)
+  accepted (Admit a) clear = (_, _, Calls.admitted)
   accepted (Ask c) clear = asks c clear
-  accepted (Deliver s) clear = (_, _, Calls.delivered clear)
+  accepted (Deliver s) clear = (_, _, Calls.delivered)
   accepted (HandBack c) clear =
-      let (x, i) = some_there (b.clients c) clear.1.1.0 in
-      let (f, gs, q) = top_of x.stack (λ n. clear.1.1.1.0 (ap held_of i ∙ n)) in
-      (_, _, Calls.handed_back clear i q)
-  accepted (Leave c) clear = let (x, i) = some_there (b.clients c) clear.1.1.0 in (_, _, Calls.left clear i)
-  accepted (SetEstimate c e) clear = let (x, i) = some_there (b.clients c) clear.1.1.0 in (_, _, Calls.estimated clear i)
-  accepted (SetClock t) clear = (_, _, Calls.clocked clear)
+      let (x, i) = some_there (b.clients c) (denied m b (HandBack c) NotAdmitted clear) in
+      let (f, gs, q) = top_of x.stack (λ n. denied m b (HandBack c) HoldsNoFrame clear (ap held_of i ∙ n)) in
+      (_, _, Calls.handed_back i q)
+  accepted (Leave c) clear = let (x, i) = some_there (b.clients c) (denied m b (Leave c) NotAdmitted clear) in (_, _, Calls.left i)
+  accepted (SetEstimate c e) clear = let (x, i) = some_there (b.clients c) (denied m b (SetEstimate c e) NotAdmitted clear) in (_, _, Calls.estimated i)
+  accepted (SetClock t) clear = (_, _, Calls.clocked)
 
   pub answers : (x : Call) → (a : Result Answer Refusal) × (d : Broker) × Step m b x a d
-  answers x = elim (settle (entries m b x) (decided x)) [ inl (r, f) ↦ (Err r, b, Calls.refused f) | inr clear ↦ accepted x clear ]
+  answers x = elim (settle (entries m b x) (decided x)) [ inl (r, f) ↦ (Err r, b, Calls.refused f) | inr clear ↦ let (a, d, e) = accepted x clear in (Ok a, d, Calls.accepted clear e) ]
 
 one_lowest : (m : Meaning) (b : Broker) (p q : Option ℕ) → LowestIs m b p → LowestIs m b q → p ≡ q
 one_lowest m b (Some p) (Some q) u v = ap Some (one_payer m b p q u v)

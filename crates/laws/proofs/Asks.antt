@@ -51,7 +51,7 @@ module _ (m : Meaning) (l : Lawful m) (b : Broker) (kb : Kept b) where
   climb_step : (k : List Event) (d : Broker) (x : Call) (a : Result Answer Refusal) (e : Broker) → (IsAccepted a → AskOrDelivery x) → Climb k d → Step m d x a e → Climb (event x a e ∷ k) e
   unfolding grants
   climb_step k d x a e p w (Calls.refused r) = record { same = w.same; peak = w.peak; peaks = w.peaks; sum = omega (arith, w.sum) }
-  climb_step k d x a e p w (Calls.granted_free {c = c} {f = f} {fs = fs} {x = y} clear g h) =
+  climb_step k d x a e p w (Calls.accepted clear (Calls.granted_free {c = c} {f = f} {fs = fs} {x = y} g h)) =
       let o = Some (with_stack y (f ∷ y.stack)) in
       let cs = d.clients in
       record {
@@ -61,7 +61,7 @@ module _ (m : Meaning) (l : Lawful m) (b : Broker) (kb : Kept b) where
             (room_here d c w.same clear) (omega (arith, ap length h)) (omega (arith, ap held_of (put_at cs c o), ap held_of g)) (λ q ne. ap held_of (put_off cs c o q ne));
         sum = omega (arith, w.sum, raise_sum c w.peak (K.numbered c (omega (arith, room_here d c w.same clear))));
       }
-  climb_step k d x a e q w (Calls.granted_from {c = c} {p = p} {f = f} {fs = fs} {x = y} {y = z} clear g h t i j) =
+  climb_step k d x a e q w (Calls.accepted clear (Calls.granted_from {c = c} {p = p} {f = f} {fs = fs} {x = y} {y = z} g h t i j)) =
       let o = Some (with_stack y (f ∷ y.stack)) in
       let v = Some (with_stack z fs) in
       let cs = d.clients in
@@ -79,9 +79,9 @@ module _ (m : Meaning) (l : Lawful m) (b : Broker) (kb : Kept b) where
             (λ q nc np. ap held_of (put_off one c o q nc) ∙ ap held_of (put_off cs p v q np));
         sum = omega (arith, w.sum, raise_sum c w.peak (K.numbered c (omega (arith, has_room))));
       }
-  climb_step k d x a e p w (Calls.delivered clear) = record { same = w.same; peak = w.peak; peaks = w.peaks; sum = omega (arith, w.sum) }
+  climb_step k d x a e p w (Calls.accepted clear Calls.delivered) = record { same = w.same; peak = w.peak; peaks = w.peaks; sum = omega (arith, w.sum) }
   -- no other call is accepted
-  climb_step k d x a e p w s = absurd (p tt)
+  climb_step k d x a e p w (Calls.accepted clear s) = absurd (p tt)
 
   climb : (k : List Event) (d : Broker) → Run m b k d → AcceptsOnlyAsks k → Climb k d
   unfolding grants

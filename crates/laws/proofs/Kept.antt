@@ -1,20 +1,22 @@
 -- What every step keeps: holdings and free frames are all frames, the minimums fit, and each client is within its terms.
-use Rattle.std.proofs.Common.{◌≡◌, ℕ, zero, suc, ◌+◌, ◌^◌, ◌<◌, ◌≤◌, ◌≢◌, List, [], ◌∷◌, ◌++◌, reverse, length, Some, None, Option, sym, refl, ap, ◌∙◌, subst, inl, inr, arith, length-append}
+use Rattle.std.proofs.Common.{◌≡◌, ℕ, zero, suc, ◌+◌, ◌<◌, ◌≤◌, ◌≢◌, List, [], ◌∷◌, ◌++◌, reverse, length, Some, None, Option, sym, refl, ap, ◌∙◌, subst, inl, inr, arith, length-append}
 use mathlib.Core.Path.{fun_ext}
 use lib.ListN.{length-reverse}
 use Rattle.std.proofs.lemmas.Option.{same_Some}
-use Rattle.std.proofs.lemmas.Bool.Decides.{nat_tests}
-use Rattle.rules.specs.declared.call.Estimate.{Estimate}
 use Rattle.rules.specs.declared.offer.Terms.{Terms}
 use Rattle.rules.specs.declared.call.Call.TheVariants.{Start, Admit}
+use Rattle.rules.specs.declared.refusal.Refusal.{Refusal}
+use Rattle.rules.specs.declared.refusal.Refusal.TheVariants.{PoolOutOfRange, ClientOutOfRange, SharesOutOfRange, ClassOutOfRange, MaximumOutOfRange, AlreadyStarted, AlreadyAdmitted, MaximumAboveFrames, MinimumsAboveFrames}
 use Rattle.rules.specs.Offers.{Meaning}
 use Rattle.rules.specs.Refusals.{Outside}
+use Rattle.rules.proofs.Named.{When}
 use Rattle.laws.specs.ByNumber.{total, Numbered, put}
 use Rattle.laws.specs.Division.{Clients, Admissible, terms}
-use Rattle.laws.specs.Broker.{Broker, Client, new_broker, active_of, terms_of, stack_of}
-use Rattle.laws.specs.Calls.{Admission, IsClear, newcomer, numbers, lasting, lasts, with_stack, with_estimate}
-use Rattle.laws.proofs.Sums.{upto_same, upto_zero}
+use Rattle.laws.specs.Broker.{Broker, Client, new_broker, terms_of, stack_of}
+use Rattle.laws.specs.Calls.{Admission, IsClear, entries, newcomer, numbers, with_stack}
+use Rattle.laws.proofs.Sums.{upto_zero}
 use Rattle.laws.proofs.Puts.{put_off, put_each, put_sum}
+use Rattle.laws.proofs.Refused.{denied}
 
 pub inside : (low high n : ℕ) → (Outside low high n → ⊥) → (low ≤ n) × (n ≤ high)
 inside low high n h = grind arith
@@ -76,14 +78,6 @@ pool_put F free left cs c o k i f e l =
       each_fits = put_each cs c o (Fit F) f (λ d ne. k.each_fits d);
     }
 
--- a client's estimate is changed and nothing else of it
-reestimate : (F c : ℕ) (x : Client) (v : Option Estimate) → ((a : ℕ) → active_of v ≡ Some a → a < 2 ^ 32) → Fit F c (Some x) → Fit F c (Some (with_estimate x v))
-reestimate F c x v small g =
-    let a = g.sound _ refl in
-    let good : Admissible c (terms (terms_of (Some (with_estimate x v)))) =
-    record { numbered = a.numbered; some_shares = a.some_shares; few_shares = a.few_shares; low_class = a.low_class; small_active = small } in
-    record { fits = g.fits; order = g.order; within = g.within; sound = λ t e. subst (Admissible c) (same_Some _ t e) good }
-
 -- other stacks, the same terms
 pub same_terms : (cs : ℕ → Option Client) (c : ℕ) (x : Client) (fs : List ℕ) → cs c ≡ Some x →
     ◌≡◌ {A = Clients} (λ q. terms_of (put cs c (Some (with_stack x fs)) q)) (λ q. terms_of (cs q))
@@ -96,40 +90,44 @@ length_numbers i (suc n) = omega (arith, length_numbers (suc i) n)
 
 pub started_kept : (m : Meaning) (b : Broker) (u F : ℕ) → Kept b → IsClear m b (Start u F) → Pool F (length (numbers 1 F)) b.clients
 started_kept m b u F k clear =
-    let i = inside 1 4_096 F (λ h. clear.0 (inl h)) in
+    let i = inside 1 4_096 F (λ h. denied m b (Start u F) PoolOutOfRange clear (inl h)) in
+    let new = denied m b (Start u F) AlreadyStarted clear in
     record {
       small = omega (arith, i);
-      all = omega (arith, k.all, length_numbers 1 F, clear.1.0);
-      room = omega (arith, k.room, clear.1.0);
-      each_fits = λ c. let f = k.each_fits c in record { fits = f.fits; order = f.order; within = omega (arith, f.within, clear.1.0); sound = f.sound };
+      all = omega (arith, k.all, length_numbers 1 F, new);
+      room = omega (arith, k.room, new);
+      each_fits = λ c. let f = k.each_fits c in record { fits = f.fits; order = f.order; within = omega (arith, f.within, new); sound = f.sound };
     }
 
 pub admitted_kept : (m : Meaning) (b : Broker) (a : Admission) → Kept b → IsClear m b (Admit a) →
     Pool b.frames (length b.free) (put b.clients a.client (Some (newcomer a)))
 admitted_kept m b a p clear =
-    pool_put b.frames (length b.free) (length b.free) b.clients a.client (Some (newcomer a)) p i fit (omega (arith, ap held_of none)) (omega (arith, clear.1.1.1.1.1.1.1.0, ap low_of none))
+    pool_put b.frames (length b.free) (length b.free) b.clients a.client (Some (newcomer a)) p i fit (omega (arith, ap held_of none)) (omega (arith, not MinimumsAboveFrames, ap low_of none))
   where
+    not : (r : Refusal) → When (entries m b (Admit a)) r → ⊥
+    not r = denied m b (Admit a) r clear
+
     i : Numbered a.client
-    i = inside 1 256 a.client clear.0
+    i = inside 1 256 a.client (not ClientOutOfRange)
 
     j : (1 ≤ a.shares) × (a.shares ≤ 1_000_000)
-    j = inside 1 1_000_000 a.shares clear.1.0
+    j = inside 1 1_000_000 a.shares (not SharesOutOfRange)
 
     none : b.clients a.client ≡ None
-    none = none_there (b.clients a.client) clear.1.1.1.1.1.0
+    none = none_there (b.clients a.client) (not AlreadyAdmitted)
 
     order : a.maximum < a.minimum → ⊥
-    order g = clear.1.1.1.0 (inr g)
+    order g = not MaximumOutOfRange (inr g)
 
     good : Admissible a.client (terms (terms_of (Some (newcomer a))))
-    good = record { numbered = i; some_shares = j.0; few_shares = j.1; low_class = omega (arith, clear.1.1.0); small_active = λ n e. absurd (none_some refl e) }
+    good = record { numbered = i; some_shares = j.0; few_shares = j.1; low_class = omega (arith, not ClassOutOfRange); small_active = λ n e. absurd (none_some refl e) }
 
     fit : Fit b.frames a.client (Some (newcomer a))
     fit =
         record {
           fits = omega arith;
           order = omega (arith, order);
-          within = omega (arith, clear.1.1.1.1.1.1.0);
+          within = omega (arith, not MaximumAboveFrames);
           sound = λ t e. subst (Admissible a.client) (same_Some _ t e) good;
         }
 
@@ -160,9 +158,6 @@ module _ (F : ℕ) (cs : ℕ → Option Client) (c : ℕ) (x : Client) (e : cs c
   left_kept free k =
       replaced (length free) (length (reverse x.stack ++ free)) None k (nobody_fits F c) (omega (arith, length-append (reverse x.stack) free, length-reverse x.stack)) (omega arith)
 
-  pub estimated_kept : (free : ℕ) (v : Option Estimate) → ((a : ℕ) → active_of v ≡ Some a → a < 2 ^ 32) → Pool F free cs → Pool F free (put cs c (Some (with_estimate x v)))
-  estimated_kept free v small k = replaced free free (Some (with_estimate x v)) k (reestimate F c x v small (fit free k)) refl (omega arith)
-
 -- c gets the top frame of p
 pub from_kept : (F : ℕ) (cs : ℕ → Option Client) (c p f : ℕ) (fs : List ℕ) (x y : Client) → Pool F 0 cs → p ≢ c →
     cs c ≡ Some x → cs p ≡ Some y → y.stack ≡ f ∷ fs → held_of (cs c) < high_of (cs c) →
@@ -171,28 +166,3 @@ from_kept F cs c p f fs x y k ne e g h room =
     let one = back_kept F cs p y g [] fs f k h in
     let off = put_off cs p (Some (with_stack y fs)) c (λ q. ne (sym q)) in
     free_kept F (put cs p (Some (with_stack y fs))) c x (off ∙ e) (f ∷ []) [] f one refl (rw off room)
-
--- an estimate that lasts is the one that was
-lasts_active : (t : ℕ) (v : Option Estimate) (a : ℕ) → active_of (lasts t v) ≡ Some a → active_of v ≡ Some a
-lasts_active t v a h = grind (arith, nat_tests)
-
-lasting_fit : (F c t : ℕ) (o : Option Client) → Fit F c o → Fit F c (lasting t o)
-lasting_fit F c t (Some x) f = reestimate F c x (lasts t x.estimate) (λ a e. (f.sound _ refl).small_active a (lasts_active t x.estimate a e)) f
-lasting_fit F c t None f = f
-
-pub lasting_stack : (t : ℕ) (o : Option Client) → stack_of (lasting t o) ≡ stack_of o
-lasting_stack t (Some x) = refl
-lasting_stack t None = refl
-
-lasting_low : (t : ℕ) (o : Option Client) → low_of (lasting t o) ≡ low_of o
-lasting_low t (Some x) = refl
-lasting_low t None = refl
-
-pub clocked_kept : (F : ℕ) (cs : ℕ → Option Client) (free : ℕ) (t : ℕ) → Pool F free cs → Pool F free (λ c. lasting t (cs c))
-clocked_kept F cs free t k =
-    record {
-      small = k.small;
-      all = omega (arith, k.all, upto_same 256 (λ c. held_of (lasting t (cs c))) (λ c. held_of (cs c)) (λ c i. ap length (lasting_stack t (cs c))));
-      room = omega (arith, k.room, upto_same 256 (λ c. low_of (lasting t (cs c))) (λ c. low_of (cs c)) (λ c i. lasting_low t (cs c)));
-      each_fits = λ c. lasting_fit F c t (cs c) (k.each_fits c);
-    }

@@ -5,18 +5,22 @@ use Rattle.std.specs.Prelude.{count_by}
 use Rattle.std.proofs.lemmas.Bool.Decides.{nat_tests}
 use Rattle.std.proofs.lemmas.List.Sums.{sum_by-cons, count_by-le-length}
 use Rattle.rules.specs.declared.call.Call.{Call}
+use Rattle.rules.specs.declared.call.Call.TheVariants.{Start, Admit}
 use Rattle.rules.specs.declared.call.Answer.{Answer}
 use Rattle.rules.specs.declared.refusal.Refusal.{Refusal}
+use Rattle.rules.specs.declared.refusal.Refusal.TheVariants.{ClientOutOfRange, AlreadyStarted, AlreadyAdmitted}
 use Rattle.rules.specs.Offers.{Meaning, Lawful}
 use Rattle.laws.specs.ByNumber.{total, Numbered, put}
 use Rattle.laws.specs.Broker.{Broker, Client, new_broker, holding, stack_of}
 use Rattle.laws.specs.Calls
-use Rattle.laws.specs.Calls.{Step, newcomer, lasting, numbers, with_stack, with_estimate}
+use Rattle.laws.specs.Calls.{Effect, Step, IsClear, newcomer, numbers, with_stack}
 use Rattle.laws.specs.Histories.{Event, Run, start, then}
 use Rattle.laws.specs.Laws.{FramesLieOnce}
 use Rattle.laws.proofs.Sums.{upto_same, upto_le, upto_zero}
 use Rattle.laws.proofs.Puts.{put_off, put_sum}
-use Rattle.laws.proofs.Kept.{Kept, inside, none_there, numbered, lasting_stack}
+use Rattle.laws.proofs.Refused.{denied}
+use Rattle.laws.proofs.Kept.{Kept, inside, none_there, numbered}
+use Rattle.laws.proofs.Quiet.{Quiet, quiet}
 use Rattle.laws.proofs.Runs.{ask_room, from_other, history_kept}
 
 abbrev times : ℕ → List ℕ → ℕ
@@ -64,32 +68,34 @@ module _ (m : Meaning) (l : Lawful m) (f : ℕ) (b : Broker) (k : Kept b) (o : l
   there : (c : ℕ) (x : Client) → b.clients c ≡ Some x → Numbered c
   there c x e = numbered b.frames c (b.clients c) x (k.each_fits c) e
 
+  -- what holds of the frames holds after a call that moves none
+  quiet_once : (d : Broker) → Quiet b d → lies f d.free d.clients ≡ once d.frames f
+  quiet_once d q =
+      let moved : once d.frames f ≡ once b.frames f = ap (λ F. once F f) q.frames in
+      omega (arith, o, moved, ap (times f) q.free, upto_same 256 (λ c. here f (d.clients c)) (λ c. here f (b.clients c)) (λ c i. ap (times f) (q.each c).stack))
+
   step_once : (x : Call) (a : Result Answer Refusal) (d : Broker) → Step m b x a d → lies f d.free d.clients ≡ once d.frames f
   step_once x a d (Calls.refused r) = o
-  step_once x a d (Calls.started {u = u} {F = F} clear) =
-      let z : 1 ≤ b.frames → ⊥ = clear.1.0 in
+  step_once x a d (Calls.accepted clear (Calls.started {u = u} {F = F})) =
+      let z : 1 ≤ b.frames → ⊥ = denied m b (Start u F) AlreadyStarted clear in
       let s = upto_le 256 (λ c. here f (b.clients c)) (holding b) (λ c i. count_by-le-length (λ g. eqb f g) (stack_of (b.clients c))) in
       let n : total (λ c. here f (b.clients c)) ≡ 0 = omega (arith, k.all) in
       let t = times_numbers f 1 F in
       grind (arith, nat_tests)
-  step_once x a d (Calls.admitted {a = q} clear) =
-      lies_put f b.free b.free b.clients q.client (Some (newcomer q)) (inside 1 256 q.client clear.0)
-      (omega (arith, ap (here f) (none_there (b.clients q.client) clear.1.1.1.1.1.0))) ∙ o
-  step_once x a d (Calls.granted_free {c = c} {f = g} {fs = gs} {x = y} clear e q) = grant_lies f b.clients b.free c y e (there c y e) g gs q ∙ o
-  step_once x a d (Calls.granted_from {c = c} {p = p} {f = g} {fs = gs} {x = y} {y = z} clear e h t i j) =
+  step_once x a d (Calls.accepted clear (Calls.admitted {a = q})) =
+      lies_put f b.free b.free b.clients q.client (Some (newcomer q)) (inside 1 256 q.client (denied m b (Admit q) ClientOutOfRange clear))
+      (omega (arith, ap (here f) (none_there (b.clients q.client) (denied m b (Admit q) AlreadyAdmitted clear)))) ∙ o
+  step_once x a d (Calls.accepted clear (Calls.granted_free {c = c} {f = g} {fs = gs} {x = y} e q)) = grant_lies f b.clients b.free c y e (there c y e) g gs q ∙ o
+  step_once x a d (Calls.accepted clear (Calls.granted_from {c = c} {p = p} {f = g} {fs = gs} {x = y} {y = z} e h t i j)) =
       let ne = from_other m l b k c p (ask_room m b c clear) t in
       let one = put b.clients p (Some (with_stack z gs)) in
       let off = put_off b.clients p (Some (with_stack z gs)) c (λ q. ne (sym q)) in
       grant_lies f one (g ∷ []) c y (off ∙ e) (there c y e) g [] refl
       ∙ back_lies f b.clients [] p z i (there p z i) g gs j
       ∙ subst (λ (fs : List ℕ). lies f fs b.clients ≡ once b.frames f) h o
-  step_once x a d (Calls.delivered clear) = o
-  step_once x a d (Calls.handed_back {c = c} {f = g} {fs = gs} {x = y} clear e q) = back_lies f b.clients b.free c y e (there c y e) g gs q ∙ o
-  step_once x a d (Calls.left {c = c} {x = y} clear e) = leave_lies f b.clients b.free c y e (there c y e) ∙ o
-  step_once x a d (Calls.estimated {c = c} {e = v} {x = y} clear e) =
-      lies_put f b.free b.free b.clients c (Some (with_estimate y (Some v))) (there c y e) (omega (arith, ap (here f) e)) ∙ o
-  step_once x a d (Calls.clocked {t = t} clear) =
-      omega (arith, o, upto_same 256 (λ c. here f (lasting t (b.clients c))) (λ c. here f (b.clients c)) (λ c i. ap (times f) (lasting_stack t (b.clients c))))
+  step_once x a d (Calls.accepted clear (Calls.handed_back {c = c} {f = g} {fs = gs} {x = y} e q)) = back_lies f b.clients b.free c y e (there c y e) g gs q ∙ o
+  step_once x a d (Calls.accepted clear (Calls.left {c = c} {x = y} e)) = leave_lies f b.clients b.free c y e (there c y e) ∙ o
+  step_once x a d (Calls.accepted {a = y} clear e) = quiet_once d (quiet m b k x y d clear e tt)
 
 run_once : (m : Meaning) → Lawful m → (f : ℕ) (h : List Event) (b : Broker) → Run m new_broker h b → lies f b.free b.clients ≡ once b.frames f
 run_once m l f h b start = let z = upto_zero 256 in grind (arith, nat_tests)

@@ -6,7 +6,9 @@ pub mod Payer
 pub mod Resting
 pub mod Shares
 pub mod Peaks
+pub mod Refused
 pub mod Kept
+pub mod Quiet
 pub mod Runs
 pub mod Rests
 pub mod Asks

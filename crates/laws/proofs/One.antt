@@ -1,5 +1,5 @@
 -- A call has one answer, and leaves one broker.
-use Rattle.std.proofs.Common.{◌≡◌, ℕ, ◌⊎◌, List, [], ◌∷◌, sym, refl, ◌∙◌, inl, inr, arith, Err, Result}
+use Rattle.std.proofs.Common.{◌≡◌, ℕ, ◌⊎◌, List, [], ◌∷◌, sym, refl, ap, ◌∙◌, inl, inr, arith, Ok, Err, Result}
 use Rattle.rules.specs.declared.call.Call.{Call}
 use Rattle.rules.specs.declared.call.Answer.{Answer}
 use Rattle.rules.specs.declared.refusal.Refusal.{Refusal}
@@ -9,7 +9,7 @@ use Rattle.rules.proofs.Ranked.{decided}
 use Rattle.laws.specs.Division.{bid_of}
 use Rattle.laws.specs.Broker.{Broker, holding, present, LowestPayer}
 use Rattle.laws.specs.Calls
-use Rattle.laws.specs.Calls.{Step, IsClear, RefusedBy, entries}
+use Rattle.laws.specs.Calls.{Effect, Step, IsClear, RefusedBy, entries}
 use Rattle.laws.specs.Laws.{OneAnswer}
 
 pub one_first : (es : List Entry) (r q : Refusal) → First es r → First es q → r ≡ q
@@ -29,26 +29,20 @@ pub one_payer : (m : Meaning) (b : Broker) (p q : ℕ) → LowestPayer m b p →
 one_payer m b p q u v =
     grind (arith, decided m (bid_of (present b) p (holding b p)) (bid_of (present b) q (holding b q)), u.lowest q v.beyond, v.lowest p u.beyond)
 
-abbrev Same : Result Answer Refusal → Result Answer Refusal → Broker → Broker → Type 0
-Same a c d e = (a ≡ c) × (d ≡ e)
-
 module _ (m : Meaning) (b : Broker) where
-  accepted_one : (x : Call) (a c : Result Answer Refusal) (d e : Broker) → IsClear m b x → Step m b x a d → Step m b x c e → Same a c d e
-  accepted_one x a c d e clear (Calls.started s) (Calls.started t) = (refl, refl)
-  accepted_one x a c d e clear (Calls.admitted s) (Calls.admitted t) = (refl, refl)
-  accepted_one x a c d e clear (Calls.granted_free s g h) (Calls.granted_free t i j) = (cc, cc)
-  accepted_one x a c d e clear (Calls.granted_free s g h) (Calls.granted_from t i j u v w) = absurd (cc)
-  accepted_one x a c d e clear (Calls.granted_from s g h k l n) (Calls.granted_free t i j) = absurd (cc)
-  accepted_one x a c d e clear (Calls.granted_from {p = p} s g h k l n) (Calls.granted_from {p = q} t i j u v w) =
-      let o = one_payer m b p q k.0 u.0 in (cc, cc)
-  accepted_one x a c d e clear (Calls.delivered s) (Calls.delivered t) = (refl, refl)
-  accepted_one x a c d e clear (Calls.handed_back s g h) (Calls.handed_back t i j) = (cc, cc)
-  accepted_one x a c d e clear (Calls.left s g) (Calls.left t i) = (cc, cc)
-  accepted_one x a c d e clear (Calls.estimated s g) (Calls.estimated t i) = (cc, cc)
-  accepted_one x a c d e clear (Calls.clocked s) (Calls.clocked t) = (refl, refl)
-  -- neither is refused
-  accepted_one x a c d e clear (Calls.refused {r = r} q) t = absurd (first_or_clear (entries m b x) r q clear)
-  accepted_one x a c d e clear s (Calls.refused {r = r} q) = absurd (first_or_clear (entries m b x) r q clear)
+  -- an accepted call has one effect
+  one_effect : (x : Call) (a c : Answer) (d e : Broker) → Effect m b x a d → Effect m b x c e → (a ≡ c) × (d ≡ e)
+  one_effect x a c d e Calls.started Calls.started = (refl, refl)
+  one_effect x a c d e Calls.admitted Calls.admitted = (refl, refl)
+  one_effect x a c d e (Calls.granted_free g h) (Calls.granted_free i j) = (cc, cc)
+  one_effect x a c d e (Calls.granted_free g h) (Calls.granted_from i j u v w) = absurd (cc)
+  one_effect x a c d e (Calls.granted_from g h k l n) (Calls.granted_free i j) = absurd (cc)
+  one_effect x a c d e (Calls.granted_from {p = p} g h k l n) (Calls.granted_from {p = q} i j u v w) = let o = one_payer m b p q k.0 u.0 in (cc, cc)
+  one_effect x a c d e Calls.delivered Calls.delivered = (refl, refl)
+  one_effect x a c d e (Calls.handed_back g h) (Calls.handed_back i j) = (cc, cc)
+  one_effect x a c d e (Calls.left g) (Calls.left i) = (cc, cc)
+  one_effect x a c d e (Calls.estimated g) (Calls.estimated i) = (cc, cc)
+  one_effect x a c d e Calls.clocked Calls.clocked = (refl, refl)
 
   -- a step is a refusal that changes nothing, or the call is clear
   abbrev pub Kind : Call → Result Answer Refusal → Broker → Type 0
@@ -56,20 +50,10 @@ module _ (m : Meaning) (b : Broker) where
 
   pub kind : (x : Call) (a : Result Answer Refusal) (d : Broker) → Step m b x a d → Kind x a d
   kind x a d (Calls.refused {r = r} q) = inl (r, q, refl, refl)
-  kind x a d (Calls.started s) = inr s
-  kind x a d (Calls.admitted s) = inr s
-  kind x a d (Calls.granted_free s g h) = inr s
-  kind x a d (Calls.granted_from s g h k l n) = inr s
-  kind x a d (Calls.delivered s) = inr s
-  kind x a d (Calls.handed_back s g h) = inr s
-  kind x a d (Calls.left s g) = inr s
-  kind x a d (Calls.estimated s g) = inr s
-  kind x a d (Calls.clocked s) = inr s
-
-  both : (x : Call) (a c : Result Answer Refusal) (d e : Broker) → Step m b x a d → Step m b x c e → Kind x a d → Kind x c e → Same a c d e
-  both x a c d e s t (inl (r, u, f, g)) (inl (q, v, h, i)) = let o = one_first (entries m b x) r q u v in (cc, cc)
-  both x a c d e s t (inr clear) v = accepted_one x a c d e clear s t
-  both x a c d e s t (inl (r, u, f, g)) (inr clear) = accepted_one x a c d e clear s t
+  kind x a d (Calls.accepted clear e) = inr clear
 
 pub one_answer : OneAnswer
-one_answer m b x a c d e s t = both m b x a c d e s t (kind m b x a d s) (kind m b x c e t)
+one_answer m b x a c d e (Calls.refused {r = r} q) (Calls.refused {r = s} t) = (ap Err (one_first (entries m b x) r s q t), refl)
+one_answer m b x a c d e (Calls.refused {r = r} q) (Calls.accepted clear t) = absurd (first_or_clear (entries m b x) r q clear)
+one_answer m b x a c d e (Calls.accepted clear s) (Calls.refused {r = r} q) = absurd (first_or_clear (entries m b x) r q clear)
+one_answer m b x a c d e (Calls.accepted {a = i} _ s) (Calls.accepted {a = j} _ t) = let o = one_effect m b x i j d e s t in (ap Ok o.0, o.1)

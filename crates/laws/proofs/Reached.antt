@@ -68,7 +68,8 @@ refused_only (e ∷ h) n = (λ a. absurd (n.0 a), refused_only h n.1)
 -- an ask that meets no refusal is granted
 clear_grants : (m : Meaning) (b : Broker) (c : ℕ) (a : Result Answer Refusal) (d : Broker) → IsClear m b (Ask c) → Step m b (Ask c) a d → grant a ≡ 1
 clear_grants m b c a d clear (Calls.refused {r = r} q) = absurd (first_or_clear (entries m b (Ask c)) r q clear)
-clear_grants m b c a d clear s = refl
+clear_grants m b c a d clear (Calls.accepted k (Calls.granted_free e f)) = refl
+clear_grants m b c a d clear (Calls.accepted k (Calls.granted_from e f t g h)) = refl
 
 module _ (m : Meaning) (l : Lawful m) where
   -- the clients up to n have asked b and were refused
@@ -114,7 +115,7 @@ module _ (m : Meaning) (l : Lawful m) where
   closing b = go b.passage refl
     where
       go : (o : Option SlipNumbers) → b.passage ≡ o → (h : List Event) × (d : Broker) × Run m b h d × AcceptsOnlyAsks h × (d.passage ≡ None)
-      go (Some s) e = (event (Deliver s) (Ok Done) _ ∷ [], _, then start (Calls.delivered (λ n. n e, tt)), (λ _. tt, tt), refl)
+      go (Some s) e = (event (Deliver s) (Ok Done) _ ∷ [], _, then start (Calls.accepted (λ n. n e, tt) Calls.delivered), (λ _. tt, tt), refl)
       go None e = ([], b, start, tt, e)
 
   module _ (h : List Event) (b : Broker) (r : Run m new_broker h b) where

@@ -3,7 +3,7 @@ use Rattle.std.proofs.Common.{◌≡◌, ℕ, ◌≤◌, ◌⊎◌, List, ◌++�
 use Rattle.rules.specs.declared.call.Call.{Call}
 use Rattle.rules.specs.declared.call.Call.TheVariants.{Ask}
 use Rattle.rules.specs.declared.call.Answer.{Answer}
-use Rattle.rules.specs.declared.refusal.Refusal.TheVariants.{AtMaximum, Outbid}
+use Rattle.rules.specs.declared.refusal.Refusal.TheVariants.{NotAdmitted, AtMaximum, Outbid}
 use Rattle.rules.specs.declared.refusal.Refusal.{Refusal}
 use Rattle.rules.specs.Offers.{Meaning, Lawful}
 use Rattle.laws.specs.Division.{Settled, capped, minimum_of}
@@ -13,6 +13,7 @@ use Rattle.laws.specs.Histories.{Event, event, Run, start, then, reached, TurnsA
 use Rattle.laws.specs.Guarantees.{RestsSettled}
 use Rattle.laws.proofs.Unique.{division_is_unique}
 use Rattle.laws.proofs.Resting.{OutbidAt, settled}
+use Rattle.laws.proofs.Refused.{reason, passed}
 use Rattle.laws.proofs.Kept.{Kept, high_of}
 use Rattle.laws.proofs.Runs.{all_sound, contest_of, cap_is, held_fits, refused_step, refused_by, history_kept, earlier_run}
 
@@ -22,7 +23,10 @@ GetsNothing m b c = (maximum_of b c ≤ holding b c) ⊎ IsOutbid m b c
 
 -- an ask refused as at the maximum, or as outbid, has met just that, and comes from a client that is admitted
 met : (m : Meaning) (b : Broker) (c : ℕ) (r : Refusal) → (r ≡ AtMaximum) ⊎ (r ≡ Outbid) → RefusedBy m b (Ask c) r → (Absent b c → ⊥) × GetsNothing m b c
-met m b c r w f = (λ none. grind arith, grind arith)
+met m b c r (inl e) f =
+    let g = subst (RefusedBy m b (Ask c)) e f in (passed m b (Ask c) AtMaximum NotAdmitted g (omega arith), inl (reason m b (Ask c) AtMaximum g))
+met m b c r (inr e) f =
+    let g = subst (RefusedBy m b (Ask c)) e f in (passed m b (Ask c) Outbid NotAdmitted g (omega arith), inr (reason m b (Ask c) Outbid g))
 
 -- an ask that turns a client away changes nothing; the client is admitted, and can get nothing
 pub turned : (m : Meaning) (b : Broker) (c : ℕ) (x : Call) (a : Result Answer Refusal) (d : Broker) → TurnsAway c (event x a d) → Step m b x a d →

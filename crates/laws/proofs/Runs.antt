@@ -1,6 +1,5 @@
 -- Runs: what holds at each of their brokers, and how they are cut and joined.
-use Rattle.std.proofs.Common.{◌≡◌, ℕ, ◌<◌, ◌≤◌, ◌≢◌, List, [], ◌∷◌, ◌++◌, length, Some, sym, refl, subst, arith, Err, Result}
-use Rattle.std.proofs.lemmas.Option.{same_Some}
+use Rattle.std.proofs.Common.{◌≡◌, ℕ, ◌<◌, ◌≤◌, ◌≢◌, List, [], ◌∷◌, ◌++◌, length, sym, refl, subst, arith, Err, Result}
 use Rattle.rules.specs.declared.call.Call.{Call}
 use Rattle.rules.specs.declared.call.Call.TheVariants.{Ask}
 use Rattle.rules.specs.declared.call.Answer.{Answer}
@@ -9,12 +8,13 @@ use Rattle.rules.specs.Offers.{Meaning, Lawful}
 use Rattle.laws.specs.Division.{AllAdmissible, capped}
 use Rattle.laws.specs.Broker.{Broker, new_broker, present, holding, maximum_of, MayTake}
 use Rattle.laws.specs.Calls
-use Rattle.laws.specs.Calls.{Step, IsClear, RefusedBy}
+use Rattle.laws.specs.Calls.{Effect, Step, IsClear, RefusedBy}
 use Rattle.laws.specs.Histories.{Event, Run, start, then, reached, IsRefused}
 use Rattle.laws.proofs.Contest.{Contest}
 use Rattle.laws.proofs.Unique.{contest}
 use Rattle.laws.proofs.Payer.{Yields, other}
-use Rattle.laws.proofs.Kept.{Kept, Pool, new_kept, started_kept, admitted_kept, free_kept, from_kept, back_kept, left_kept, estimated_kept, clocked_kept}
+use Rattle.laws.proofs.Kept.{Kept, Pool, new_kept, started_kept, admitted_kept, free_kept, from_kept, back_kept, left_kept}
+use Rattle.laws.proofs.Quiet.{quiet, quiet_kept}
 
 pub ask_room : (m : Meaning) (b : Broker) (c : ℕ) → IsClear m b (Ask c) → holding b c < maximum_of b c
 ask_room m b c clear = omega arith
@@ -41,18 +41,15 @@ module _ (m : Meaning) (l : Lawful m) (b : Broker) (k : Kept b) where
 
 step_kept : (m : Meaning) → Lawful m → (b : Broker) (x : Call) (a : Result Answer Refusal) (d : Broker) → Kept b → Step m b x a d → Kept d
 step_kept m l b x a d k (Calls.refused r) = k
-step_kept m l b x a d k (Calls.started {u = u} {F = F} clear) = started_kept m b u F k clear
-step_kept m l b x a d k (Calls.admitted {a = y} clear) = admitted_kept m b y k clear
-step_kept m l b x a d k (Calls.granted_free {c = c} {f = f} {fs = fs} {x = y} clear e g) =
+step_kept m l b x a d k (Calls.accepted clear (Calls.started {u = u} {F = F})) = started_kept m b u F k clear
+step_kept m l b x a d k (Calls.accepted clear (Calls.admitted {a = y})) = admitted_kept m b y k clear
+step_kept m l b x a d k (Calls.accepted clear (Calls.granted_free {c = c} {f = f} {fs = fs} {x = y} e g)) =
     free_kept b.frames b.clients c y e b.free fs f k g (ask_room m b c clear)
-step_kept m l b x a d k (Calls.granted_from {c = c} {p = p} {f = f} {fs = fs} {x = y} {y = z} clear e g t i h) =
+step_kept m l b x a d k (Calls.accepted clear (Calls.granted_from {c = c} {p = p} {f = f} {fs = fs} {x = y} {y = z} e g t i h)) =
     from_kept b.frames b.clients c p f fs y z (subst (λ q. Pool b.frames (length q) b.clients) g k) (from_other m l b k c p (ask_room m b c clear) t) e i h (ask_room m b c clear)
-step_kept m l b x a d k (Calls.delivered clear) = k
-step_kept m l b x a d k (Calls.handed_back {c = c} {f = f} {fs = fs} {x = y} clear e g) = back_kept b.frames b.clients c y e b.free fs f k g
-step_kept m l b x a d k (Calls.left {c = c} {x = y} clear e) = left_kept b.frames b.clients c y e b.free k
-step_kept m l b x a d k (Calls.estimated {c = c} {e = v} {x = y} clear e) =
-    estimated_kept b.frames b.clients c y e (length b.free) (Some v) (λ n q. omega (arith, same_Some v.active n q, clear.1.1.1.0, k.small)) k
-step_kept m l b x a d k (Calls.clocked {t = t} clear) = clocked_kept b.frames b.clients (length b.free) t k
+step_kept m l b x a d k (Calls.accepted clear (Calls.handed_back {c = c} {f = f} {fs = fs} {x = y} e g)) = back_kept b.frames b.clients c y e b.free fs f k g
+step_kept m l b x a d k (Calls.accepted clear (Calls.left {c = c} {x = y} e)) = left_kept b.frames b.clients c y e b.free k
+step_kept m l b x a d k (Calls.accepted {a = y} clear e) = quiet_kept b d (quiet m b k x y d clear e tt) k
 
 pub run_kept : (m : Meaning) → Lawful m → (b : Broker) (h : List Event) (d : Broker) → Kept b → Run m b h d → Kept d
 run_kept m l b h d k start = k
@@ -65,7 +62,7 @@ history_kept m l h b r = run_kept m l new_broker h b new_kept r
 pub refused_step : (m : Meaning) (b : Broker) (x : Call) (a : Result Answer Refusal) (d : Broker) → IsRefused a → Step m b x a d →
     (r : Refusal) × RefusedBy m b x r × (a ≡ Err r) × (d ≡ b)
 refused_step m b x a d n (Calls.refused {r = r} q) = (r, q, refl, refl)
-refused_step m b x a d n s = absurd (n tt)
+refused_step m b x a d n (Calls.accepted clear e) = absurd (n tt)
 
 pub refused_by : (m : Meaning) (b : Broker) (x : Call) (r : Refusal) (d : Broker) → Step m b x (Err r) d → RefusedBy m b x r
 refused_by m b x r d (Calls.refused q) = q

@@ -3,9 +3,10 @@ use Rattle.std.proofs.Common.{◌≡◌, ℕ, ◌+◌, ◌*◌, ◌/◌, ◌<◌
 use Rattle.std.proofs.lemmas.Bool.{cases_lt}
 use Rattle.std.proofs.lemmas.Bool.Decides.{nat_tests}
 use Rattle.rules.specs.declared.call.Call.{Call}
-use Rattle.rules.specs.declared.call.Call.TheVariants.{HandBack, Leave}
+use Rattle.rules.specs.declared.call.Call.TheVariants.{Admit, HandBack, Leave}
 use Rattle.rules.specs.declared.call.Answer.{Answer}
 use Rattle.rules.specs.declared.refusal.Refusal.{Refusal}
+use Rattle.rules.specs.declared.refusal.Refusal.TheVariants.{AlreadyAdmitted}
 use Rattle.rules.specs.Offers.{Meaning, Lawful}
 use Rattle.rules.specs.Rank.{above, ranks, offer_of}
 use Rattle.rules.specs.Laws.{Made}
@@ -13,14 +14,16 @@ use Rattle.laws.specs.ByNumber.{total, put}
 use Rattle.laws.specs.Division.{Clients, terms, minimum_of, capped, bid_of}
 use Rattle.laws.specs.Broker.{Broker, Client, new_broker, present, holding, maximum_of, shares_of, all_shares, share_of, MinimumsWithin, MayTake}
 use Rattle.laws.specs.Calls
-use Rattle.laws.specs.Calls.{Step, Absent, newcomer, with_stack, with_estimate, lasts, lasting}
+use Rattle.laws.specs.Calls.{Step, Absent, newcomer, with_stack}
 use Rattle.laws.specs.Histories.{Event, event, Run, start, then, reached, Each, Throughout, smallest, TurnsAway, Keeps}
 use Rattle.laws.specs.Guarantees.{TellsShare}
 use Rattle.laws.proofs.Puts.{put_off, put_each}
 use Rattle.laws.proofs.Contest.{Can}
 use Rattle.laws.proofs.Unique.{made, admissible}
 use Rattle.laws.proofs.Shares.{outbid_has_part, loser_had_more}
+use Rattle.laws.proofs.Refused.{denied}
 use Rattle.laws.proofs.Kept.{Kept, new_kept, high_of, held_of, none_some, some_there, same_terms}
+use Rattle.laws.proofs.Quiet.{Quiet, quiet}
 use Rattle.laws.proofs.Runs.{all_sound, ask_room, contest_of, cap_is, held_fits, yields, from_other, history_kept, run_kept, earlier_run, later_run, lands}
 use Rattle.laws.proofs.Rests.{GetsNothing, turned, outbid_at}
 
@@ -95,15 +98,19 @@ module _ (m : Meaning) (l : Lawful m) (share_told : TellsShare m) where
     replaced q o h if-it =
         elim (put_there d.clients q o c) [ inl (same, at) ↦ if-it same (h ∙ at) | inr (ne, off) ↦ as_it_was (h ∙ off) ]
 
+    -- it is as it was in its frames and limits
+    quiet_stays : {e : Broker} → Quiet d e → Stays c d e
+    quiet_stays q = record { there = (q.each c).there x there; maximum = (q.each c).high; enough = inl (omega (arith, ap length (q.each c).stack)) }
+
     module _ (k : Kept d) (w : MinimumsWithin d) where
       step_stays : (y : Call) (a : Result Answer Refusal) (e : Broker) → Keeps c (event y a e) → Step m d y a e → Stays c d e
-      step_stays y a e n (Calls.admitted {a = q} clear) =
+      step_stays y a e n (Calls.accepted clear (Calls.admitted {a = q})) =
           replaced q.client (Some (newcomer q)) refl
-          (λ same at. absurd (clear.1.1.1.1.1.0 (λ none. none_some none (subst (λ (i : ℕ). d.clients i ≡ Some x) same there))))
-      step_stays y a e n (Calls.granted_free {c = q} {f = f} {x = z} clear i j) =
+          (λ same at. absurd (denied m d (Admit q) AlreadyAdmitted clear (λ none. none_some none (subst (λ (i : ℕ). d.clients i ≡ Some x) same there))))
+      step_stays y a e n (Calls.accepted clear (Calls.granted_free {c = q} {f = f} {x = z} i j)) =
           let o = with_stack z (f ∷ z.stack) in
           replaced q (Some o) refl (λ same at. not_less q z o i same at refl (omega arith))
-      step_stays y a e n (Calls.granted_from {c = q} {p = p} {f = f} {fs = fs} {x = z} {y = u} clear i j t v s) =
+      step_stays y a e n (Calls.accepted clear (Calls.granted_from {c = q} {p = p} {f = f} {fs = fs} {x = z} {y = u} i j t v s)) =
           elim (put_there (put d.clients p (Some (with_stack u fs))) q (Some (with_stack z (f ∷ z.stack))) c) [
             | inl (same, at) ↦ not_less q z (with_stack z (f ∷ z.stack)) i same at refl (omega arith)
             | inr (ne, off) ↦ elim (put_there d.clients p (Some (with_stack u fs)) c) [
@@ -125,16 +132,13 @@ module _ (m : Meaning) (l : Lawful m) (share_told : TellsShare m) where
                 maximum = omega (arith, ap high_of at, ap high_of there, ap (λ (u : Client). u.maximum) u_is);
                 enough = inr (omega (arith, share_is, more, ap held_of at, ap held_of there, ap (λ (u : Client). length u.stack) u_is, ap length s));
               }
-      step_stays y a e n (Calls.handed_back {c = q} {fs = fs} {x = z} clear i j) =
+      step_stays y a e n (Calls.accepted clear (Calls.handed_back {c = q} {fs = fs} {x = z} i j)) =
           replaced q (Some (with_stack z fs)) refl (λ same at. absurd ((n tt).0 (ap HandBack (sym same))))
-      step_stays y a e n (Calls.left {c = q} {x = z} clear i) = replaced q None refl (λ same at. absurd ((n tt).1 (ap Leave (sym same))))
-      step_stays y a e n (Calls.estimated {c = q} {e = v} {x = z} clear i) =
-          let o = with_estimate z (Some v) in
-          replaced q (Some o) refl (λ same at. not_less q z o i same at refl (omega arith))
-      step_stays y a e n (Calls.clocked {t = t} clear) =
-          not_less c x (with_estimate x (lasts t x.estimate)) there refl (ap (lasting t) there) refl (omega arith)
-      -- a refusal, a start and a delivery leave all clients as they were
-      step_stays y a e n s = as_it_was refl
+      step_stays y a e n (Calls.accepted clear (Calls.left {c = q} {x = z} i)) = replaced q None refl (λ same at. absurd ((n tt).1 (ap Leave (sym same))))
+      -- a refusal and a start leave all clients as they were
+      step_stays y a e n (Calls.refused r) = as_it_was refl
+      step_stays y a e n (Calls.accepted clear Calls.started) = as_it_was refl
+      step_stays y a e n (Calls.accepted {a = v} clear s) = quiet_stays (quiet m d k y v e clear s tt)
 
   -- what holds throughout holds at the end
   at_end : (P : Broker → Type 0) (b : Broker) (h : List Event) (d : Broker) → Run m b h d → Throughout P b h → P d

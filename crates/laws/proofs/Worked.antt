@@ -1,19 +1,13 @@
 -- The worked examples, by computing.
-use Rattle.std.proofs.Common.{◌≡◌, ℕ, zero, suc, ◌+◌, ◌*◌, ◌<◌, ◌≤◌, min, Bool, true, false, cond, ◌&&◌, eqb, ltb, leb, [], ◌∷◌, length, None, codes, refl, ap, arith}
-use Rattle.std.proofs.lemmas.Fmt.{decimal_digit}
+use Rattle.std.proofs.Common.{◌≡◌, ℕ, zero, suc, ◌+◌, ◌*◌, ◌<◌, ◌≤◌, min, Bool, true, false, cond, ◌&&◌, eqb, ltb, leb, None, refl, ap, inl, inr, arith}
 use Rattle.std.proofs.lemmas.Bool.Decides.{nat_tests, Decides-below_and}
 use Rattle.rules.specs.Offers.{Meaning, Valid}
 use Rattle.rules.specs.Prices.{share}
 use Rattle.rules.specs.Rank.{above, ranks}
-use Rattle.rules.specs.declared.refusal.FaultKind.TheVariants as fault
-use Rattle.events.specs.declared.word.EventKind.TheVariants.{Ask}
-use Rattle.events.specs.Grammar.{spelled}
-use Rattle.events.specs.Faults
-use Rattle.events.specs.Faults.{Begins, fault_at}
 use Rattle.laws.specs.ByNumber.{upto, total}
 use Rattle.laws.specs.Division.{Clients, Settled, minimum_of, capped, bid_of}
 use Rattle.laws.specs.Broker.{Broker, present, shares_of, all_shares, MinimumsWithin}
-use Rattle.laws.specs.Cases.{three, trio, seven, hundred, HasFault, WorkedExamples}
+use Rattle.laws.specs.Cases.{three, trio, seven, hundred, WorkedExamples}
 
 -- a test of the numbers below n
 every : ℕ → (ℕ → Bool) → Bool
@@ -59,19 +53,6 @@ unfolding fits
 within_by b none ones c =
     grind (arith, nat_tests, every_tells 4 (fits b) ones c, none c)
 
--- a letter and no space
-asks_nobody : HasFault (codes "Q") 2 2
-asks_nobody =
-    let begins : Begins (codes "Q") Ask [] [] = record { whole = refl; sized = tt; ended = tt } in
-    (fault_at fault.Space 2, Faults.no_space begins (omega arith) (λ more e. cc), refl, refl)
-
--- a letter, its number and one space more
-goes_on : HasFault (codes "Q 3 ") 4 4
-goes_on =
-    let three_is = decimal_digit 3 (omega arith) in
-    let begins : Begins (codes "Q 3 ") Ask (3 ∷ []) (32 ∷ []) = record { whole = rw three_is; sized = omega arith; ended = refl } in
-    (fault_at fault.Excess (length (spelled Ask (3 ∷ [])) + 1), Faults.no_end begins refl (λ e. cc), refl, rw three_is)
-
 at_four : Valid (hundred 0 None 4)
 at_four =
     record { some_shares = omega arith; few_shares = omega arith; low_class = omega arith; small_active = λ a e. cc; some_frame = omega arith; few_frames = omega arith }
@@ -95,6 +76,12 @@ worked_examples =
       taxed_differs = λ same. let e : ◌≡◌ {A = ℕ} 100 4 = ap (λ q. q.bottom) (same (hundred 0 None 4) at_four) in omega arith;
       keeps = λ b. (λ a. (λ e. cc, λ e. cc), λ a. absurd a);
       gives_up = λ b. (λ k. (k tt).0 refl, λ k. (k tt).1 refl);
-      no_space = asks_nobody;
-      no_end = goes_on;
+      stretch = λ c s. (tt, tt);
+      in_stretch = λ b. (λ a. absurd a, (λ a. absurd a, tt));
+      no_stretch = λ b a. a.0 tt;
+      turned = λ b. (inl (refl, inl refl), inr (λ a. a, inl (refl, inr refl)));
+      not_turned = λ b. (λ t. grind arith, λ t. grind arith);
+      no_longer = λ b t. grind arith;
+      asked = λ b. inr (inl refl);
+      not_asked = λ b t. grind arith;
     }

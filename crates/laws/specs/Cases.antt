@@ -1,4 +1,4 @@
--- Worked examples of the rules.
+-- Worked examples of prices and settled divisions, and of what the premises of the guarantees bear.
 --
 -- hundred           an offer of 100 shares, with a class, an active count or none, and a count
 -- quote             a quote of a class, a top and a bottom
@@ -7,23 +7,20 @@
 -- trio              clients 1, 2 and 3 with 500, 300 and 100 shares: a minimum for client 3, and a maximum for all
 -- newly             a client with shares and a minimum, that holds nothing yet
 -- seven             a broker with seven frames and clients 1, 2 and 3 with 500, 300 and 100 shares: a minimum for client 3
--- HasFault          a line has its first fault of a kind, by its number, at a column
 -- WorkedExamples    the examples, all together
-use Rattle.std.specs.Prelude.{◌≡◌, ℕ, ◌+◌, cond, List, [], Some, None, Ok, Err, codes, Option, ◌==◌}
+use Rattle.std.specs.Prelude.{◌≡◌, ℕ, ◌+◌, cond, [], ◌∷◌, Some, None, Ok, Err, Option, ◌==◌}
 use Rattle.rules.specs.declared.offer.Offer.{Offer}
 use Rattle.rules.specs.declared.offer.Quote.{Quote}
 use Rattle.rules.specs.declared.offer.Terms.{Terms}
-use Rattle.rules.specs.declared.refusal.Fault.{Fault}
-use Rattle.rules.specs.declared.refusal.Refusal.TheVariants.{HoldsNoFrame}
-use Rattle.rules.specs.Numbers.{kind_number}
+use Rattle.rules.specs.declared.refusal.Refusal.TheVariants.{NotAdmitted, AtMaximum, Outbid, HoldsNoFrame}
 use Rattle.rules.specs.Prices.{share, taxed, classed}
-use Rattle.events.specs.Faults.{FirstFault}
 use Rattle.laws.specs.ByNumber.{total}
 use Rattle.laws.specs.Division.{Clients, Settled}
-use Rattle.laws.specs.Broker.{Client, Broker, share_of, MinimumsWithin}
-use Rattle.laws.specs.Calls.{HandBack, Leave, Frame, Count, numbers}
-use Rattle.laws.specs.Histories.{event, Keeps}
+use Rattle.laws.specs.Broker.{Client, Broker, SlipNumbers, new_broker, share_of, MinimumsWithin}
+use Rattle.laws.specs.Calls.{Ask, Deliver, HandBack, Leave, SetClock, Frame, Count, numbers}
+use Rattle.laws.specs.Histories.{event, AskOrDelivery, AcceptsOnlyAsks, TurnedAway, Keeps}
 use Rattle.laws.specs.Guarantees.{TellsShare}
+use Rattle.laws.specs.Laws.{Asked}
 
 abbrev pub hundred : ℕ → Option ℕ → ℕ → Offer
 hundred class active count = record { shares = 100; class = class; active = active; count = count }
@@ -44,11 +41,7 @@ abbrev pub newly : ℕ → ℕ → Option Client
 newly shares minimum = Some (record { shares = shares; class = 0; minimum = minimum; maximum = 7; estimate = None; stack = [] })
 
 abbrev pub seven : ℕ → Broker
-seven minimum =
-    record { unit = 1; frames = 7; tick = 0; asks = 0; free = numbers 1 7; clients = three (newly 500 0) (newly 300 0) (newly 100 minimum) None; passage = None }
-
-abbrev pub HasFault : List ℕ → ℕ → ℕ → Type 0
-HasFault line kind column = (f : Fault) × FirstFault line f × (kind_number f.kind ≡ kind) × (f.column ≡ column)
+seven minimum = record new_broker { unit = 1; frames = 7; free = numbers 1 7; clients = three (newly 500 0) (newly 300 0) (newly 100 minimum) None }
 
 pub record WorkedExamples : Type 0 where
   -- 100 shares at 4 frames under the share price
@@ -78,6 +71,15 @@ pub record WorkedExamples : Type 0 where
   pub keeps : (b : Broker) → Keeps 1 (event (HandBack 2) (Ok (Frame 5)) b) × Keeps 1 (event (HandBack 1) (Err HoldsNoFrame) b)
   -- and not when it hands one back, or leaves
   pub gives_up : (b : Broker) → (Keeps 1 (event (HandBack 1) (Ok (Frame 5)) b) → ⊥) × (Keeps 1 (event (Leave 1) (Ok (Count 2)) b) → ⊥)
-  -- an ask without a client, and one that goes on after it
-  pub no_space : HasFault (codes "Q") 2 2
-  pub no_end : HasFault (codes "Q 3 ") 4 4
+  -- in a stretch of asks these may be accepted, and other calls only refused
+  pub stretch : (c : ℕ) (s : SlipNumbers) → AskOrDelivery (Ask c) × AskOrDelivery (Deliver s)
+  pub in_stretch : (b : Broker) → AcceptsOnlyAsks (event (HandBack 1) (Err HoldsNoFrame) b ∷ (event (Ask 1) (Err Outbid) b ∷ []))
+  pub no_stretch : (b : Broker) → AcceptsOnlyAsks (event (HandBack 1) (Ok (Frame 5)) b ∷ (event (Ask 1) (Err Outbid) b ∷ [])) → ⊥
+  -- client 1 is turned away at its maximum or outbid, and stays so while every call is refused
+  pub turned : (b : Broker) → TurnedAway 1 (event (Ask 1) (Err AtMaximum) b ∷ []) × TurnedAway 1 (event (HandBack 1) (Err HoldsNoFrame) b ∷ (event (Ask 1) (Err Outbid) b ∷ []))
+  -- it is not by another refusal, by an ask of another client, or once a call was accepted
+  pub not_turned : (b : Broker) → (TurnedAway 1 (event (Ask 1) (Err NotAdmitted) b ∷ []) → ⊥) × (TurnedAway 1 (event (Ask 2) (Err Outbid) b ∷ []) → ⊥)
+  pub no_longer : (b : Broker) → TurnedAway 1 (event (SetClock 4) (Ok (Count 0)) b ∷ (event (Ask 1) (Err Outbid) b ∷ [])) → ⊥
+  -- client 1 has asked, whatever it was answered, and client 2 has not
+  pub asked : (b : Broker) → Asked 1 (event (Leave 2) (Ok (Count 2)) b ∷ (event (Ask 1) (Err NotAdmitted) b ∷ []))
+  pub not_asked : (b : Broker) → Asked 2 (event (Leave 2) (Ok (Count 2)) b ∷ (event (Ask 1) (Err NotAdmitted) b ∷ [])) → ⊥

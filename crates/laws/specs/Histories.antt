@@ -20,7 +20,7 @@ use Rattle.rules.specs.Offers.{Meaning}
 use Rattle.rules.specs.declared.refusal.Refusal.{Refusal}
 use Rattle.rules.specs.declared.refusal.Refusal.TheVariants.{AtMaximum, Outbid}
 use Rattle.laws.specs.Broker.{Client, Broker}
-use Rattle.laws.specs.Calls.{Call, Start, Admit, Ask, Deliver, HandBack, Leave, SetEstimate, SetClock, Answer, Done, Granted, Frame, Count, Step}
+use Rattle.laws.specs.Calls.{Call, Start, Admit, Ask, Deliver, HandBack, Leave, SetEstimate, SetClock, Answer, Granted, Step}
 
 pub record Event : Type 0 where
   pub call : Call
@@ -59,11 +59,8 @@ abbrev pub IsRefused : Result Answer Refusal → Type 0
 IsRefused a = IsAccepted a → ⊥
 
 abbrev pub grant : Result Answer Refusal → ℕ
-grant (Ok Done) = 0
 grant (Ok (Granted s)) = 1
-grant (Ok (Frame f)) = 0
-grant (Ok (Count n)) = 0
-grant (Err r) = 0
+grant a = 0
 
 unfoldable pub grants : List Event → ℕ
 grants [] = 0

@@ -6,18 +6,18 @@
 -- FramesLieOnce              every frame of the pool lies in exactly one stack, once, and nothing else lies in any
 -- OneAnswer                  a call on a broker has one answer, and leaves one broker
 -- EveryCallIsAnswered        a call that is not refused is accepted
--- ListsRise                  the numbers rise along the refusals of every call and every question
+-- ListsRise                  the places rise along the refusals of every call and every question, those from the input first
 -- Asked                      a client has asked
 -- RestIsReached              where only asks and deliveries are accepted, accepted asks end and the broker comes to rest
 -- LowestPayerIsFound         there is one lowest payer, or none
-use Rattle.std.specs.Prelude.{◌≡◌, ℕ, ◌+◌, ◌≤◌, cond, ◌⊎◌, List, [], ◌∷◌, ◌++◌, count_by, Some, None, Option, Result, ◌==◌, nat_le}
+use Rattle.std.specs.Prelude.{◌≡◌, ℕ, ◌+◌, ◌≤◌, true, false, cond, ◌⊎◌, List, [], ◌∷◌, ◌++◌, count_by, Some, None, Option, Result, ◌==◌, nat_le}
 use Rattle.rules.specs.declared.refusal.Refusal.{Refusal}
 use Rattle.rules.specs.Offers.{Meaning, Lawful}
-use Rattle.rules.specs.Refusals.{Rising}
+use Rattle.rules.specs.Refusals.{Rising, AllInput}
 use Rattle.laws.specs.ByNumber.{total}
 use Rattle.laws.specs.Division.{Clients, AllAdmissible, Settled}
 use Rattle.laws.specs.Broker.{Client, Broker, new_broker, stack_of}
-use Rattle.laws.specs.Calls.{Call, Ask, Answer, entries, Step}
+use Rattle.laws.specs.Calls.{Call, Ask, Answer, inputs, states, priced, entries, Step}
 use Rattle.laws.specs.Questions.{price_entries, client_entries, LowestIs}
 use Rattle.laws.specs.Histories.{Event, Run, reached, Each, IsRefused, grants, AcceptsOnlyAsks, AtRest}
 use Rattle.laws.specs.Families.{Tagged, Brokers, FamilyRun, own}
@@ -52,6 +52,8 @@ EveryCallIsAnswered =
 
 pub record ListsRise : Type 0 where
   pub calls : (m : Meaning) (b : Broker) (x : Call) → Rising (entries m b x)
+  pub from_input : (x : Call) → AllInput true (inputs x)
+  pub from_state : (m : Meaning) (b : Broker) (x : Call) → AllInput false (states b x ++ priced m b x)
   pub prices : (b : Broker) (c count : ℕ) → Rising (price_entries b c count)
   pub clients : (b : Broker) (c : ℕ) → Rising (client_entries b c)
 

@@ -4,28 +4,25 @@
 -- client_entries   what the questions for a client's holding and its proportional share are refused for
 -- price_at         the price of a client at a count
 -- LowestIs         the answer to the question for the lowest payer, which is never refused: that client, or none
-use Rattle.std.specs.Prelude.{ℕ, List, [], ◌∷◌, Some, None, Option}
+use Rattle.std.specs.Prelude.{ℕ, List, [], ◌∷◌, ◌++◌, Some, None, Option}
 use Rattle.rules.specs.declared.offer.Quote.{Quote}
-use Rattle.rules.specs.declared.refusal.Refusal.TheVariants.{ClientOutOfRange, CountOutOfRange, NotAdmitted}
+use Rattle.rules.specs.declared.refusal.Refusal.TheVariants.{CountOutOfRange, NotAdmitted}
 use Rattle.rules.specs.Offers.{Meaning}
 use Rattle.rules.specs.Rank.{told}
 use Rattle.rules.specs.Refusals.{Entry, entry, Outside}
 use Rattle.laws.specs.Division.{bid_of}
 use Rattle.laws.specs.Broker.{Broker, present, Beyond, LowestPayer}
-use Rattle.laws.specs.Calls.{Absent}
+use Rattle.laws.specs.Calls.{Absent, client_inputs}
 
 abbrev pub price_entries : Broker → ℕ → ℕ → List Entry
 price_entries b c count =
-    entry ClientOutOfRange (Outside 1 256 c)
-    ∷ entry CountOutOfRange (Outside 1 4_096 count)
+    client_inputs c
+    ++ (entry CountOutOfRange (Outside 1 4_096 count)
     ∷ entry NotAdmitted (Absent b c)
-    ∷ []
+    ∷ [])
 
 abbrev pub client_entries : Broker → ℕ → List Entry
-client_entries b c =
-    entry ClientOutOfRange (Outside 1 256 c)
-    ∷ entry NotAdmitted (Absent b c)
-    ∷ []
+client_entries b c = client_inputs c ++ (entry NotAdmitted (Absent b c) ∷ [])
 
 abbrev pub price_at : Meaning → Broker → ℕ → ℕ → Quote
 price_at m b c count = told m (bid_of (present b) c count)

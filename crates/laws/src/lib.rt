@@ -36,7 +36,8 @@ pub fn every_call_is_answered()
     ensures { EveryCallIsAnswered }
 {}
 
-/// The numbers rise along the list of refusals of every call and every question.
+/// The places among the tests rise along the list of refusals of every call and every question, and those from the input
+/// come first.
 pub fn refusal_numbers_rise()
     ensures { ListsRise }
 {}
@@ -52,7 +53,7 @@ pub fn rest_is_reached()
     ensures { RestIsReached }
 {}
 
-/// The worked examples of prices, settled divisions and faults of event lines, together.
+/// The worked examples of prices and settled divisions, and of what the premises of the guarantees bear, together.
 pub fn worked_examples_hold()
     ensures { WorkedExamples }
 {}

@@ -50,8 +50,8 @@ pub few_end : (t : ℕ) (cs : ℕ → Option Client) → total (λ c. ends t (cs
 few_end t cs = few_upto 256 (λ c. ends t (cs c)) (λ c. ends_one t (cs c))
 
 pub clock_step : (m : Meaning) (b : Broker) (t n : ℕ) (ds : ℕ → Option Client) → IsClear m b (SetClock t) → Clocked t b.clients n ds → ((c : ℕ) → ends t (ds c) ≡ 0) →
-    Step m b (SetClock t) (Ok (Count n)) (record { unit = b.unit; frames = b.frames; tick = t; asks = b.asks; free = b.free; clients = ds; passage = b.passage })
+    Step m b (SetClock t) (Ok (Count n)) (record b { tick = t; clients = ds })
 clock_step m b t n ds clear k h =
     let same : ds ≡ (λ c. lasting t (b.clients c)) = fun_ext (λ c. sym (all_left t (ds c) (h c)) ∙ k.last c) in
     let counted : n ≡ total (λ c. ends t (b.clients c)) = omega (arith, k.count, upto_same 256 (λ c. ends t (ds c)) (λ _. 0) (λ c i. h c), upto_zero 256) in
-    rw (same, counted) (Calls.clocked clear)
+    rw (same, counted) (Calls.accepted clear Calls.clocked)

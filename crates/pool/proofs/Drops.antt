@@ -12,10 +12,10 @@ use Rattle.laws.specs.Broker.{Estimate}
 use Rattle.laws.specs.Calls.{ended, ends, moved, with_estimate}
 use Rattle.ledger.specs.Ledgers.{stack_of}
 use Rattle.pool.specs.Members.{Member, estimate_end, end_in}
-use Rattle.pool.specs.View.{Pool, view, client_of}
+use Rattle.pool.specs.View.{Pool, view, client_with, client_of}
 use Rattle.pool.specs.Clocks.{Dropped}
 use Rattle.pool.proofs.Views.{seen_with}
-use Rattle.pool.proofs.Tables.{client_with, client_is, set_clients}
+use Rattle.pool.proofs.Tables.{client_is, set_clients}
 use Rattle.pool.specs.declared.ends.End.{End}
 use Rattle.pool.specs.Ticks.{leads}
 

@@ -11,9 +11,9 @@ use Rattle.ledger.specs.declared.ledger.Ledger.{Ledger}
 use Rattle.ledger.specs.Ledgers.{stack_of}
 use Rattle.ledger.specs.Stacks.{Moved}
 use Rattle.pool.specs.Members.{Member}
-use Rattle.pool.specs.View.{Pool, view, client_of, Grants, free, from, nothing}
+use Rattle.pool.specs.View.{Pool, view, client_with, client_of, Grants, free, from, nothing}
 use Rattle.pool.proofs.Views.{clients_of, seen, from_parts, same_client}
-use Rattle.pool.proofs.Tables.{client_with, client_is, changed_clients}
+use Rattle.pool.proofs.Tables.{client_is, changed_clients}
 
 -- a client that is there is noted
 pub noted : (o : Option Member) (fs : List ℕ) → (client_of o fs ≡ None → ⊥) → (x : Member) × (o ≡ Some x)
@@ -34,16 +34,19 @@ module _ (b : Pool) (k : Ledger) (c f : ℕ) (same : k.frames ≡ b.ledger.frame
   abbrev before : rules.Broker
   before = view b
 
-  -- the pool after the grant of the frame from q
+  -- the ask counted and its passage open, before and after the grant of the frame from q
+  abbrev asked : ℕ → rules.Broker
+  asked q = record before { asks = (b.asks + 1) % 2 ^ 64; passage = Some (slip before c f q) }
+
   abbrev after : ℕ → rules.Broker
-  after q = seen b.unit b.tick ((b.asks + 1) % 2 ^ 64) (Some (slip before c f q)) b.members k
+  after q = seen (asked q) b.members k
 
   taker : (x : Member) → by_number b.members c ≡ Some x → stack_of k c ≡ f ∷ stack_of b.ledger c → clients_of b.members (stack_of k) c ≡ Some (client_with x (f ∷ stack_of b.ledger c))
   taker x e given = ap (λ (o : Option Member). client_of o (stack_of k c)) e ∙ ap (λ (fs : List ℕ). Some (client_with x fs)) given
 
   granted_of_free : (x : Member) → by_number b.members c ≡ Some x → Moved (stack_of b.ledger) (stack_of k) 0 c f → Grants before c 0 (Some (slip before c f 0)) (after 0)
   granted_of_free x e v =
-      from_parts (Grants before c 0 (Some (slip before c f 0))) same refl clients (free {x = client_with x (stack_of b.ledger c)} (client_is b c x e) v.taken)
+      from_parts (Grants before c 0 (Some (slip before c f 0))) (asked 0) same refl clients (free {x = client_with x (stack_of b.ledger c)} (client_is b c x e) v.taken)
     where
       clients : clients_of b.members (stack_of k) ≡ put before.clients c (Some (client_with x (f ∷ stack_of b.ledger c)))
       clients = changed_clients b b.members (stack_of k) c _ (taker x e v.given) (λ d ne. refl) v.others
@@ -51,7 +54,7 @@ module _ (b : Pool) (k : Ledger) (c f : ℕ) (same : k.frames ≡ b.ledger.frame
   granted_of_client : (q : ℕ) (x y : Member) → by_number b.members c ≡ Some x → by_number b.members q ≡ Some y → q ≢ c → Moved (stack_of b.ledger) (stack_of k) q c f →
       Grants before c q (Some (slip before c f q)) (after q)
   granted_of_client q x y e g ne v =
-      from_parts (Grants before c q (Some (slip before c f q))) same
+      from_parts (Grants before c q (Some (slip before c f q))) (asked q) same
       (v.others 0 (λ z. omega (arith, z, noted_numbered b.members b.places q y g)) (λ z. omega (arith, z, noted_numbered b.members b.places c x e))) clients
       (from {x = client_with x (stack_of b.ledger c)} {y = client_with y (stack_of b.ledger q)} ne (client_is b c x e) (client_is b q y g) v.taken)
     where

@@ -3,23 +3,21 @@ use Rattle.std.proofs.Common.{◌≡◌, ℕ, suc, ◌≤◌, ◌≢◌, List, [
 use mathlib.Core.Path.{fun_ext}
 use Rattle.std.proofs.lemmas.List.{get_or-set_same}
 use Rattle.rules.specs.Offers.{Meaning}
+use Rattle.rules.specs.declared.refusal.Refusal.TheVariants.{ClientOutOfRange, AlreadyAdmitted}
 use Rattle.laws.specs.ByNumber.{total, Numbered, put, by_number}
 use Rattle.laws.specs.Broker as rules
 use Rattle.laws.specs.Broker.{SlipNumbers}
 use Rattle.laws.specs.Division.{terms}
-use Rattle.laws.specs.Calls.{Admission, Admit, Done, Step, admitted, newcomer, IsClear}
+use Rattle.laws.specs.Calls.{Admission, Admit, Done, Step, accepted, admitted, newcomer, IsClear}
+use Rattle.laws.proofs.Refused.{denied}
 use Rattle.laws.proofs.Kept.{none_some, inside}
 use Rattle.laws.proofs.Puts.{put_each}
 use Rattle.laws.proofs.Sums.{at_le_upto}
 use Rattle.laws.proofs.Table.{number_off}
 use Rattle.ledger.specs.Ledgers.{stack_of}
 use Rattle.pool.specs.Members.{Member}
-use Rattle.pool.specs.View.{Pool, view, client_of}
+use Rattle.pool.specs.View.{Pool, view, client_with, client_of}
 use Rattle.pool.proofs.Views.{clients_of, seen_with, from_parts, same_client}
-
--- a client with its stack
-abbrev pub client_with : Member → List ℕ → rules.Client
-client_with x fs = record { shares = x.shares; class = x.class; minimum = x.minimum; maximum = x.maximum; estimate = x.estimate; stack = fs }
 
 pub client_is : (b : Pool) (c : ℕ) (x : Member) → by_number b.members c ≡ Some x → (view b).clients c ≡ Some (client_with x (stack_of b.ledger c))
 client_is b c x e = ap (λ (o : Option Member). client_of o (stack_of b.ledger c)) e
@@ -60,7 +58,7 @@ pub admit_step : (m : Meaning) (b : Pool) (a : Admission) (i : ℕ) (x : Member)
 admit_step m b a i x is new clear =
     let c = a.client in
     let s = stack_of b.ledger in
-    let none = not_there (by_number b.members c) (s c) clear.1.1.1.1.1.0 in
+    let none = not_there (by_number b.members c) (s c) (denied m (view b) (Admit a) AlreadyAdmitted clear) in
     let empty : s c ≡ [] = rw (← is) (b.stray i (rw (← is) at none)) in
-    let after = set_clients b s c i (Some x) (Some (newcomer a)) (sym is) (inside 1 256 c clear.0).1 (ap (client_of (Some x)) empty ∙ new) (λ d pos ne. refl) in
-    from_parts (Step m (view b) (Admit a) (Ok Done)) refl refl after (admitted clear)
+    let after = set_clients b s c i (Some x) (Some (newcomer a)) (sym is) (inside 1 256 c (denied m (view b) (Admit a) ClientOutOfRange clear)).1 (ap (client_of (Some x)) empty ∙ new) (λ d pos ne. refl) in
+    from_parts (Step m (view b) (Admit a) (Ok Done)) (view b) refl refl after (accepted clear admitted)

@@ -1,33 +1,31 @@
--- A view by its parts, and a call that leaves the view as it was may be a refused one.
+-- Views with other parts, and a call that leaves the view as it was may be a refused one.
 use Rattle.std.proofs.Common.{◌≡◌, ℕ, zero, suc, ◌≢◌, List, get_or, None, Ok, Err, IsErrAnd, Option, Result, refl, ap, arith}
 use Rattle.rules.specs.Offers.{Meaning}
 use Rattle.rules.specs.declared.refusal.Refusal.{Refusal}
 use Rattle.laws.specs.Broker as rules
-use Rattle.laws.specs.Broker.{SlipNumbers}
 use Rattle.laws.specs.Calls.{Call, Answer, Step, refused, RefusedBy, answered}
 use Rattle.laws.specs.ByNumber.{by_number}
 use Rattle.ledger.specs.declared.ledger.Ledger.{Ledger}
 use Rattle.ledger.specs.Ledgers.{stack_of}
 use Rattle.pool.specs.declared.member.Member.{Member}
-use Rattle.pool.specs.View.{Pool, client_of}
+use Rattle.pool.specs.View.{Pool, view, client_of}
 
 -- the clients that a table and stacks make
 abbrev pub clients_of : List (Option Member) → (ℕ → List ℕ) → ℕ → Option rules.Client
 clients_of xs s c = client_of (by_number xs c) (s c)
 
--- a view by its parts
-abbrev pub seen : ℕ → ℕ → ℕ → Option SlipNumbers → List (Option Member) → Ledger → rules.Broker
-seen u t n p xs l =
-    record { unit = u; frames = l.frames; tick = t; asks = n; free = stack_of l 0; clients = clients_of xs (stack_of l); passage = p }
+-- a broker with the frames and the clients of a table and a ledger
+abbrev pub seen : rules.Broker → List (Option Member) → Ledger → rules.Broker
+seen v xs l = record v { frames = l.frames; free = stack_of l 0; clients = clients_of xs (stack_of l) }
 
 -- a pool with another table and another ledger
 abbrev pub seen_with : Pool → List (Option Member) → Ledger → rules.Broker
-seen_with b xs l = seen b.unit b.tick b.asks b.passage xs l
+seen_with b xs l = seen (view b) xs l
 
--- what holds of a view holds of one with equal parts
-pub from_parts : (P : rules.Broker → Type 0) {u t n F G : ℕ} {p : Option SlipNumbers} {fs gs : List ℕ} {cs ds : ℕ → Option rules.Client} → F ≡ G → fs ≡ gs → cs ≡ ds →
-    P (record { unit = u; frames = G; tick = t; asks = n; free = gs; clients = ds; passage = p }) → P (record { unit = u; frames = F; tick = t; asks = n; free = fs; clients = cs; passage = p })
-from_parts P e f g h = rw (e, f, g) h
+-- what holds of a broker holds of one with equal frames and clients
+pub from_parts : (P : rules.Broker → Type 0) (v : rules.Broker) {F G : ℕ} {fs gs : List ℕ} {cs ds : ℕ → Option rules.Client} → F ≡ G → fs ≡ gs → cs ≡ ds →
+    P (record v { frames = G; free = gs; clients = ds }) → P (record v { frames = F; free = fs; clients = cs })
+from_parts P v e f g h = rw (e, f, g) h
 
 -- the exit of a call whose answer hands a refusal on
 pub refused_exit : {A : Type 0} {m : Meaning} {b d : rules.Broker} {x : Call} (word : A → Answer) (e : Refusal) (r : Result A Refusal) →

@@ -14,7 +14,7 @@ pub record Clocked (t : ℕ) (cs : ℕ → Option Client) (n : ℕ) (ds : ℕ �
   pub count : n + total (λ c. ends t (ds c)) ≡ total (λ c. ends t (cs c))
 
 abbrev pub at_tick : Broker → ℕ → Broker
-at_tick b t = record { unit = b.unit; frames = b.frames; tick = t; asks = b.asks; free = b.free; clients = b.clients; passage = b.passage }
+at_tick b t = record b { tick = t }
 
 pub record Dropped (t : ℕ) (b : Broker) (c : ℕ) (d : Broker) : Type 0 where
   pub numbered : Numbered c

@@ -1,7 +1,7 @@
 -- A pool as the broker that the rules speak of.
 --
 -- Pool         as in the code
--- client_of    a client as the rules speak of it, of what is noted of it and its stack
+-- client_with, client_of   a client as the rules speak of it, of what is noted of it and its stack; none where nothing is noted
 -- view         the pool as the rules speak of it
 -- AdmittedAs   a client is admitted, and this is noted of it
 -- height       how many frames lie in a client's stack, and for 0 in the free stack
@@ -21,9 +21,11 @@ use Rattle.ledger.specs.Ledgers.{stack_of}
 use Rattle.pool.specs.declared.member.Member.{Member}
 pub use Rattle.pool.specs.declared.pool.Pool.{Pool}
 
+abbrev pub client_with : Member → List ℕ → rules.Client
+client_with x fs = record { shares = x.shares; class = x.class; minimum = x.minimum; maximum = x.maximum; estimate = x.estimate; stack = fs }
+
 abbrev pub client_of : Option Member → List ℕ → Option rules.Client
-client_of (Some x) fs =
-    Some (record { shares = x.shares; class = x.class; minimum = x.minimum; maximum = x.maximum; estimate = x.estimate; stack = fs })
+client_of (Some x) fs = Some (client_with x fs)
 client_of None fs = None
 
 abbrev pub view : Pool → rules.Broker

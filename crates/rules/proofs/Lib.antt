@@ -1,3 +1,4 @@
+pub mod Named
 pub mod Separate
 pub mod Ranked
 pub mod Lawfully

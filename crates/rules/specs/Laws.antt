@@ -6,7 +6,7 @@
 -- RanksInOrder     under a price the rank is one strict order, and falls with the count for each client
 -- RankIsOneOrder   so it is under every lawful price
 -- PricesLawful     the prices are lawful
--- ListsRise        the numbers rise along the refusals of an offer, of a tax rate, of a sheet and of a buffer
+-- ListsRise        the places rise along the refusals of an offer, of a tax rate, of a sheet and of a buffer
 use Rattle.std.specs.Prelude.{◌≡◌, ℕ, ◌<◌, ◌≤◌, Bool, ◌⊎◌}
 use Rattle.rules.specs.Offers.{Meaning, Valid, Lawful}
 use Rattle.rules.specs.Prices.{share, taxed, classed, one_of}

@@ -27,7 +27,7 @@ pub record Valid (o : Offer) : Type 0 where
   pub few_frames : o.count ≤ 4_096
 
 abbrev pub at_count : Offer → ℕ → Offer
-at_count o k = record { shares = o.shares; class = o.class; active = o.active; count = k }
+at_count o k = record o { count = k }
 
 -- Classes run from 0 to 9, tops from 1 to 100,000,000, bottoms from 1 to 1,000,000,000.
 pub record InRange (q : Quote) : Type 0 where

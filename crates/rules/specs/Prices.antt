@@ -25,7 +25,7 @@ abbrev pub taxed : ℕ → Meaning
 taxed r o = record { class = 0; top = o.shares * (100 - r); bottom = taxed_bottom r o.active o.count }
 
 abbrev pub classed : Meaning → Meaning
-classed m o = record { class = o.class; top = (m o).top; bottom = (m o).bottom }
+classed m o = record (m o) { class = o.class }
 
 abbrev pub one_of : Bool → Meaning → Meaning → Meaning
 one_of first m n o = cond first (m o) (n o)

@@ -1,18 +1,19 @@
--- Lists of refusals: what a call or a question is refused for, in the order of the numbers.
+-- Lists of refusals: what a call or a question is refused for, in the order of the tests.
 --
 -- Entry            a refusal, and when it is met
 -- entry            such an entry
 -- First            the first entry of a list that is met has this refusal
 -- Clear            no entry of a list is met
 -- Replies          refused by the first entry met; where none is, accepted with a value of which something holds
--- From, Rising     the numbers rise along a list, from one past a number on; from the first on
+-- From, Rising     the places rise along a list, from one past a place on; from the first on
+-- AllInput         all refusals of a list are from the input, or none is
 -- Outside          a number is outside a range
 -- offer_entries    the list of making an offer from shares, a class and a count
 -- rate_entries     the list of making a taxed price from a rate
 -- sheet_entries    the list of filling a tariff sheet of a length at a rate
 -- buffer_entries   the list of writing something of a length into a buffer of a length
-use Rattle.std.specs.Prelude.{◌≡◌, ℕ, ◌<◌, ◌⊎◌, List, [], ◌∷◌, Ok, Err, Result}
-use Rattle.rules.specs.Numbers.{Refusal, SharesOutOfRange, ClassOutOfRange, RateOutOfRange, CountOutOfRange, BufferTooShort, number}
+use Rattle.std.specs.Prelude.{◌≡◌, ℕ, ◌<◌, Bool, ◌⊎◌, List, [], ◌∷◌, Ok, Err, Result}
+use Rattle.rules.specs.Numbers.{Refusal, SharesOutOfRange, ClassOutOfRange, RateOutOfRange, CountOutOfRange, BufferTooShort, is_input, place}
 
 pub record Entry : Type 1 where
   pub refusal : Refusal
@@ -35,10 +36,14 @@ Replies es P (Err r) = First es r
 
 abbrev pub From : ℕ → List Entry → Type 0
 From n [] = Unit {0}
-From n (e ∷ es) = (n < number e.refusal) × From (number e.refusal) es
+From n (e ∷ es) = (n < place e.refusal) × From (place e.refusal) es
 
 abbrev pub Rising : List Entry → Type 0
 Rising es = From 0 es
+
+abbrev pub AllInput : Bool → List Entry → Type 0
+AllInput q [] = Unit {0}
+AllInput q (e ∷ es) = (is_input e.refusal ≡ q) × AllInput q es
 
 abbrev pub Outside : ℕ → ℕ → ℕ → Type 0
 Outside low high n = (n < low) ⊎ (high < n)

@@ -11,7 +11,7 @@ pub fn prices_are_lawful()
     ensures { PricesLawful }
 {}
 
-/// The numbers rise along the list of refusals of making an offer, a taxed price or a tariff sheet, and of writing.
+/// The places among the tests rise along the list of refusals of making an offer, a taxed price or a tariff sheet, and of writing.
 pub fn refusal_numbers_rise()
     ensures { ListsRise }
 {}

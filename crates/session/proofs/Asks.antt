@@ -40,15 +40,15 @@ module _ (m : Meaning) (b : rules.Broker) (few : (d : ℕ) → holding b d ≤ 4
       (((λ none. none_some none k), omega arith, omega (arith, one, few (suc p))), rw (one, k, e))
 
   pub leaves : {s : SlipNumbers} {g : rules.Broker} → holding g c ≤ 4_096 → s.former ≢ c → Step m b (Ask c) (Ok (Granted s)) g → Leaves m b c s g
-  leaves {g = g} most other (Calls.granted_free clear e h) = record { asker = refl; some = given g most (put_at _ _ _); less = tt; over = refl }
-  leaves {g = g} most other (Calls.granted_from {p = p} {y = y} clear e h may i k) =
+  leaves {g = g} most other (Calls.accepted clear (Calls.granted_free e h)) = record { asker = refl; some = given g most (put_at _ _ _); less = tt; over = refl }
+  leaves {g = g} most other (Calls.accepted clear (Calls.granted_from {p = p} {y = y} e h may i k)) =
       let t = taken p y g i k (put_off _ _ _ _ other ∙ put_at _ _ _) in
       record { asker = refl; some = given g most (put_at _ _ _); less = t.0; over = t.1 }
 
 -- the slip that opened the passage is delivered
 pub delivers : {P : Type 0} {o : Ghosts P} {g d : Broker P o} {s : SlipNumbers} (r : Result (Unit {0}) Undelivered) → (view g).passage ≡ Some s → Stepped g (Deliver s) (delivered r) d → IsOk r
 delivers (Ok x) e t = refl
-delivers {g = g} (Err u) e t = let o = (one_answer (meaning g) (view g) _ _ _ _ _ (Calls.delivered ((λ other. other e), tt)) t.step).0 in cc
+delivers {g = g} (Err u) e t = let o = (one_answer (meaning g) (view g) _ _ _ _ _ (Calls.accepted ((λ other. other e), tt) Calls.delivered) t.step).0 in cc
 
 module _ {P : Type 0} {ghosts : Ghosts P} {b g : Broker P ghosts} {c : ℕ} {s : SlipNumbers} (a : Stepped b (Ask c) (Ok (Granted s)) g) (o : Opens c s g) where
   abbrev m : Meaning

@@ -2,7 +2,7 @@
 ghost use Rattle.std.specs.Prelude.{◌≡◌, suc};
 ghost use Rattle.rules.specs.Refusals.{Replies};
 ghost use Rattle.laws.specs.Broker.{new_broker};
-ghost use Rattle.laws.specs.Calls.{Start, Admit, Deliver, Done, admit_entries, answered};
+ghost use Rattle.laws.specs.Calls.{Start, Admit, Deliver, Done, unpriced, answered};
 ghost use Rattle.pool.specs.View.{view, Steps};
 
 use super::Pool;
@@ -58,7 +58,7 @@ impl Pool {
 
     /// The place in the table for an admission that may be granted.
     fn admissible(&self, asked: Admission) -> Result<usize, Refusal>
-        ensures { Replies (admit_entries (view self.now) asked) (λ i. suc i ≡ asked.client) result }
+        ensures { Replies (unpriced (view self.now) (Admit asked)) (λ i. suc i ≡ asked.client) result }
     {
         let Admission {
             client,
@@ -77,9 +77,7 @@ impl Pool {
         if maximum == 0 || maximum < minimum {
             return Err(Refusal::MaximumOutOfRange);
         }
-        if self.passage.is_some() {
-            return Err(Refusal::PassageOpen);
-        }
+        self.no_passage()?;
         if self.members[place].is_some() {
             return Err(Refusal::AlreadyAdmitted);
         }

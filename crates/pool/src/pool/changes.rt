@@ -1,7 +1,7 @@
 //! The calls on an admitted client, besides its asks.
-ghost use Rattle.std.specs.Prelude.{◌≡◌};
+ghost use Rattle.std.specs.Prelude.{◌≡◌, [], ◌∷◌};
 ghost use Rattle.rules.specs.Refusals.{Replies};
-ghost use Rattle.laws.specs.Calls.{HandBack, Leave, SetEstimate, Done, Frame, Count, caller_entries, estimate_entries, answered};
+ghost use Rattle.laws.specs.Calls.{HandBack, Leave, SetEstimate, Done, Frame, Count, passage_entry, caller_entries, unpriced, answered};
 ghost use Rattle.pool.specs.View.{view, AdmittedAs, Steps};
 
 use super::Pool;
@@ -11,14 +11,22 @@ use crate::member::Member;
 use rules::{Estimate, Refusal};
 
 impl Pool {
+    /// Any call that a passage has to wait for is refused while one is open.
+    pub(crate) fn no_passage(&self) -> Result<(), Refusal>
+        ensures { Replies (passage_entry (view self.now) ∷ []) (λ _. Unit {0}) result }
+    {
+        if self.passage.is_some() {
+            return Err(Refusal::PassageOpen);
+        }
+        Ok(())
+    }
+
     /// What is noted of a client that may call: while no passage is open, and the client is admitted.
     pub(crate) fn caller(&self, client: u32) -> Result<Member, Refusal>
         ensures { Replies (caller_entries (view self.now) client) (AdmittedAs self.now client) result }
     {
         let place = place(client)?;
-        if self.passage.is_some() {
-            return Err(Refusal::PassageOpen);
-        }
+        self.no_passage()?;
         self.members[place].ok_or(Refusal::NotAdmitted)
     }
 
@@ -50,7 +58,7 @@ impl Pool {
 
     /// What is noted of a client whose estimate may be set.
     fn estimable(&self, client: u32, estimate: Estimate) -> Result<Member, Refusal>
-        ensures { Replies (estimate_entries (view self.now) client estimate) (AdmittedAs self.now client) result }
+        ensures { Replies (unpriced (view self.now) (SetEstimate client estimate)) (AdmittedAs self.now client) result }
     {
         let member = self.caller(client)?;
         if estimate.active > self.ledger.frames() as u32 {

@@ -2,7 +2,7 @@
 ghost use Rattle.std.specs.Prelude.{◌≡◌, ℕ, Some, MatchOption};
 ghost use Rattle.rules.specs.Refusals.{Replies};
 ghost use Rattle.laws.specs.ByNumber.{Numbered};
-ghost use Rattle.laws.specs.Calls.{clock_entries, ended, ends};
+ghost use Rattle.laws.specs.Calls.{SetClock, unpriced, ended, ends};
 ghost use Rattle.pool.specs.View.{view, AdmittedAs};
 ghost use Rattle.pool.specs.Clocks.{Drops, at_tick};
 
@@ -13,11 +13,9 @@ use rules::Refusal;
 impl Pool {
     /// Whether the clock may be set to a tick. Any tick is refused while a passage is open, and then one before the clock.
     pub fn clockable(&self, tick: u32) -> Result<(), Refusal>
-        ensures { Replies (clock_entries (view self.now) tick) (λ _. Unit {0}) result }
+        ensures { Replies (unpriced (view self.now) (SetClock tick)) (λ _. Unit {0}) result }
     {
-        if self.passage.is_some() {
-            return Err(Refusal::PassageOpen);
-        }
+        self.no_passage()?;
         if tick < self.tick {
             return Err(Refusal::TickBeforeClock);
         }

@@ -1,7 +1,7 @@
 //! Who may ask, and the grant of a frame.
 ghost use Rattle.std.specs.Prelude.{◌≡◌};
 ghost use Rattle.rules.specs.Refusals.{Replies};
-ghost use Rattle.laws.specs.Calls.{Absent, asker_entries, slip as slip-of};
+ghost use Rattle.laws.specs.Calls.{Ask, Absent, unpriced, slip as slip-of};
 ghost use Rattle.pool.specs.View.{view, AdmittedAs, Grants};
 
 use super::Pool;
@@ -12,7 +12,7 @@ impl Pool {
     /// What is noted of a client that may ask. A client number outside 1 to 256 is refused, then any client while a
     /// passage is open, one that is not admitted, and one that holds its maximum.
     pub fn asker(&self, client: u32) -> Result<Member, Refusal>
-        ensures { Replies (asker_entries (view self.now) client) (AdmittedAs self.now client) result }
+        ensures { Replies (unpriced (view self.now) (Ask client)) (AdmittedAs self.now client) result }
     {
         let member = self.caller(client)?;
         if self.height(client) >= member.maximum {

@@ -1,10 +1,10 @@
 //! The questions, which change nothing and are answered also while a passage is open.
-ghost use Rattle.std.specs.Prelude.{◌≡◌, suc, ◌*◌, ◌^◌, ◌≤◌, [], ◌∷◌, length, is_some, Some};
-ghost use Rattle.rules.specs.declared.refusal.Refusal.TheVariants.{ClientOutOfRange};
-ghost use Rattle.rules.specs.Refusals.{Replies, Outside, entry};
+ghost use Rattle.std.specs.Prelude.{◌≡◌, suc, ◌*◌, ◌^◌, ◌≤◌, length, is_some, Some};
+ghost use Rattle.rules.specs.Refusals.{Replies};
 ghost use Rattle.laws.specs.ByNumber.{total, Numbered, by_number};
 ghost use Rattle.laws.specs.Division.{minimum_of};
 ghost use Rattle.laws.specs.Broker.{holding as held, present, all_shares, share_of};
+ghost use Rattle.laws.specs.Calls.{client_inputs};
 ghost use Rattle.laws.specs.Questions.{client_entries};
 ghost use Rattle.pool.specs.View.{view, height, AdmittedAs, NextClient};
 
@@ -14,7 +14,7 @@ use rules::Refusal;
 
 /// The place of a client in the table. A client number outside 1 to 256 is refused.
 pub(super) fn place(client: u32) -> Result<usize, Refusal>
-    ensures { Replies (entry ClientOutOfRange (Outside 1 256 client) ∷ []) (λ i. suc i ≡ client) result }
+    ensures { Replies (client_inputs client) (λ i. suc i ≡ client) result }
 {
     if !(1..=256).contains(&client) {
         return Err(Refusal::ClientOutOfRange);

@@ -9,11 +9,11 @@ pub returns-in_err-frame : goal.returns-in_err-frame
 returns-in_err-frame c =
     let b = c.args.self.now in
     let (same, empty) = c.in_err-frame.ensures.moved in
-    rw c.from_residual.ensures (grant_none b c.args.client c.requires c.args.from (ap (seen b.unit b.tick b.asks b.passage b.members) same) empty)
+    rw c.from_residual.ensures (grant_none b c.args.client c.requires c.args.from (ap (seen (view b) b.members) same) empty)
 
 pub returns : goal.returns
 returns c =
     let b = c.args.self.now in
-    let after : SlipNumbers → Broker = λ s. seen b.unit b.tick s.asks (Some s) b.members c.move_top.new.self in
+    let after : SlipNumbers → Broker = λ s. seen (record (view b) { asks = s.asks; passage = Some s }) b.members c.move_top.new.self in
     subst (λ (s : SlipNumbers). Grants (view b) c.args.client c.args.from (Some s) (after s)) (sym c.next_slip-slip.ensures)
     (grant_made b c.move_top.new.self c.args.client c.in_ok-frame.frame c.move_top.ensures.frames c.args.from c.in_ok-frame.ensures.moved c.requires)

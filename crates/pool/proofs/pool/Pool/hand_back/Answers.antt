@@ -1,6 +1,8 @@
 use Rattle.std.proofs.Common.{◌≡◌, None, refl, ap, arith}
 use Rattle.std.proofs.lemmas.Option.{MatchOption-at_some, MatchOption-at_none}
-use Rattle.rules.specs.declared.refusal.Refusal.TheVariants.{HoldsNoFrame}
+use Rattle.rules.specs.declared.refusal.Refusal.TheVariants.{ClientOutOfRange, HoldsNoFrame}
+use Rattle.rules.proofs.Named.{cleared}
+use Rattle.laws.specs.Calls.{caller_entries}
 use Rattle.laws.proofs.Kept.{inside}
 use Rattle.pool.specs.View.{view}
 use Rattle.pool.proofs.Views.{seen_with, refused_exit}
@@ -18,7 +20,7 @@ returns-in_err-frame c =
     let found = c.in_ok-caller.ensures in
     let none : (c.move_top.result ≡ None) × (c.in_err-frame.field-0.0 ≡ HoldsNoFrame) = grind (arith, c.in_err-frame.ensures.value) in
     let v = MatchOption-at_none _ _ none.0 c.move_top.ensures.moved in
-    let n = inside 1 256 c.args.client found.0.0 in
+    let n = inside 1 256 c.args.client (cleared (caller_entries (view b) c.args.client) ClientOutOfRange found.0) in
     let empty = v.1 (omega arith) (λ z. omega (arith, n, z)) in
     λ m. (refused_exit _ _ c.from_residual-in_err-frame.result c.from_residual-in_err-frame.ensures.1 (ap (seen_with b b.members) v.0)
     (rw none.1 (refused_empty m b c.args.client c.in_ok-caller.field-0 found.1 empty found.0)))
