@@ -1,5 +1,5 @@
 use Rattle.heap.proofs.Parts.{root_within, root_least}
-use Rattle.heap.proofs.calls.root.Goals as goal
+use Rattle.heap.proofs.records.root.Goals as goal
 
 pub returns : goal.returns
 returns g c =
