@@ -3,6 +3,6 @@ mod Trees
 mod Writes
 mod Members
 mod Room
-mod Exchanges
+mod Swaps
 mod Changes
 mod Parts

@@ -1,16 +1,16 @@
 -- While an owner is out, there is a place for it.
-use Rattle.std.proofs.Common.{◌≡◌, ℕ, ◌+◌, ◌<◌, None, eqb, List, map, length, set, ◌∙◌, arith}
+use Rattle.std.proofs.Common.{◌≡◌, ℕ, ◌+◌, ◌<◌, false, is_some, eqb, List, map, length, set, ◌∙◌, arith}
 use Rattle.std.proofs.lemmas.Bool.{cases_eq}
 use Rattle.std.proofs.lemmas.Bool.Decides.{nat_tests}
 use Rattle.std.proofs.lemmas.List.{length-map, length-set, get_or-set_same, get_or-set_other}
 use Rattle.std.proofs.lemmas.List.Folds.{list_any_at}
 use Rattle.std.proofs.lemmas.Map.Steps.{le-length_from_below}
 use Rattle.heap.specs.declared.records.Record.{Record}
-use Rattle.heap.specs.Heaps.{owner_at, place_of, Placed, keys}
+use Rattle.heap.specs.Heaps.{owner_at, place_of, IsIndexed, keys}
 use Rattle.heap.proofs.Members.{in_at, none_out}
 
 -- were o to note place n, that place would be noted, and so is each before it, by the owner that it names
-pub room : {K : Type 0} (xs : List (Record K)) (n o : ℕ) → Placed xs n → o < length xs → keys xs n o ≡ None → n < length xs
+pub room : {K : Type 0} (xs : List (Record K)) (n o : ℕ) → IsIndexed xs n → o < length xs → is_some (keys xs n o) ≡ false → n < length xs
 unfolding place_of
 room xs n o x ho none =
     let ps = map (λ r. r.place) xs in

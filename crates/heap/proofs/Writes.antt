@@ -1,5 +1,5 @@
 -- What a read of one record says, and what a write to one leaves of all of them.
-use Rattle.std.proofs.Common.{◌≡◌, ℕ, ◌<◌, List, map, length, get_or, set, Some, sym, refl, ap, ◌∙◌, arith}
+use Rattle.std.proofs.Common.{◌≡◌, ℕ, ◌<◌, List, map, length, get_or, set, Some, ◌≢◌, sym, refl, ap, ◌∙◌, arith}
 use Rattle.std.specs.List.{slice_get}
 use Rattle.std.proofs.Math.Seq.{map-set_same}
 use Rattle.std.proofs.lemmas.Grind.{common_steps}
@@ -7,7 +7,7 @@ use Rattle.std.proofs.lemmas.Option.{gets, slice_get-get_or}
 use Rattle.std.proofs.lemmas.List.{length-set, length-map, map-set, get_or-map, get_or-set_same, get_or-set_other}
 use Rattle.heap.specs.declared.records.Record.{Record}
 use Rattle.heap.specs.Heaps.{owner_at, place_of, key_of}
-use Rattle.heap.specs.Steps.{Seated, Rekeyed}
+use Rattle.heap.specs.Steps.{OwnerPlaced}
 
 written : {X : Type 0} (f : X → ℕ) (xs : List X) (i : ℕ) (a : X) → i < length xs → get_or (map f (set xs i a)) i 0 ≡ f a
 written f xs i a h = rw (map-set f xs i a) (get_or-set_same (map f xs) i (f a) 0 (omega (arith, length-map xs f)))
@@ -19,6 +19,14 @@ nth_unwritten : {X : Type 0} (l : List X) (i j : ℕ) (v : X) → (j ≡ i → �
 nth_unwritten l i j v h = grind (arith, common_steps, gets)
 
 module _ {K : Type 0} where
+  -- an owner has another key
+  pub record Rekeyed (xs ys : List (Record K)) (o : ℕ) (k : K) : Type 0 where
+    pub long : length ys ≡ length xs
+    pub owners : (i : ℕ) → owner_at ys i ≡ owner_at xs i
+    pub places : (q : ℕ) → place_of ys q ≡ place_of xs q
+    pub key : key_of ys o ≡ Some k
+    pub keys : (q : ℕ) → (q ≢ o) → key_of ys q ≡ key_of xs q
+
   pub owner_read : (xs : List (Record K)) (i : ℕ) (d : Record K) → i < length xs → (get_or xs i d).owner ≡ owner_at xs i
   unfolding owner_at
   owner_read xs i d h = sym (get_or-map (λ x. x.owner) xs i d 0 h)
@@ -43,9 +51,9 @@ module _ {K : Type 0} where
     abbrev pub noted : Record K
     noted = record { key = (get_or between o e).key; owner = (get_or between o e).owner; place = i }
 
-    pub seated : Seated xs (set between o noted) i o
+    pub owner_placed : OwnerPlaced xs (set between o noted) i o
     unfolding owner_at place_of key_of
-    seated = record {
+    owner_placed = record {
       long = length-set between o noted ∙ length-set xs i named;
       keys = λ q. rw (map-set_same (λ x. x.key) between o noted e refl, map-set_same (λ x. x.key) xs i named d refl);
       owner = rw (map-set_same (λ x. x.owner) between o noted e refl) (written (λ x. x.owner) xs i named hi);

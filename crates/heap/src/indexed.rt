@@ -1,24 +1,24 @@
-//! A heap that keeps its records and its count, for a caller that lends them to nobody else.
-ghost use Rattle.std.specs.Prelude.{◌≡◌, ℕ, ◌<◌, Some, None, MatchOption, nat_eq};
+//! A heap that keeps its records and its count.
+ghost use Rattle.std.specs.Prelude.{◌≡◌, ℕ, ◌<◌, Some, None, nat_eq};
 ghost use Rattle.std.specs.Map.{update};
-ghost use Rattle.heap.specs.Heaps.{Heap, Least};
+ghost use Rattle.heap.specs.Heaps.{Heap, IsRoot};
 
 use super::{Order, Record};
 
-/// A heap of the owners below N, in fixed memory: a map from owners to keys that answers an owner whose key no other
+/// A heap of the owners below N, in fixed memory: a map from owners to keys that gives an owner whose key no other
 /// precedes.
-// Kept: fixed memory: each of the N records needs a key from the start, and the count says how many places are in use.
+// The memory is fixed, so all N records have a key from the start; the count says how many places are in use.
 #[derive(Drop)]
 pub struct IndexedHeap<K: Order, const N: usize> {
     records: [Record<K>; N],
     count: usize,
-    ghost heaped: { Heap K.Order.leads records count },
+    ghost heap: { Heap K.Order.leads records count },
 }
 
 impl<K: Order + Copy, const N: usize> IndexedHeap<K, N> {
     ghost use Rattle.heap.specs.Indexed.{keys_in};
 
-    /// Nobody is in yet. Each record needs a key from the start; this one is never answered.
+    /// Nobody is in yet. Each record needs a key from the start; this one is never returned.
     #[tactic(auto, using(crate::proofs::Members::reads))]
     pub fn new(unused: K) -> IndexedHeap<K, N>
         ensures { (o : ℕ) → keys_in result o ≡ None }
@@ -51,7 +51,7 @@ impl<K: Order + Copy, const N: usize> IndexedHeap<K, N> {
 
     /// An owner whose key no key in the heap precedes, with that key, or none where nobody is in.
     pub fn root(&self) -> Option<(usize, &K)>
-        ensures { MatchOption result ((o : ℕ) → keys_in self.now o ≡ None) (λ p. (p.0 < N) × Least K.Order.leads (keys_in self.now) p.0 p.1.now) }
+        ensures { IsRoot K.Order.leads N (keys_in self.now) result }
     {
         super::root(&self.records, self.count)
     }

@@ -2,7 +2,7 @@
 ghost use Rattle.std.specs.Prelude.{◌≡◌, Bool, true, false};
 
 /// An order of keys that is total and transitive. Two keys may tie, and then each leads the other.
-// Kept: the project's form. std's `Ord` wants `==` to hold where two keys tie, and two bids may tie and differ.
+// std's `Ord` wants `==` to hold where two keys tie, but two bids may tie and differ.
 pub trait Order {
     // Whether the first key comes no later than the second.
     ghost leads: { Self → Self → Bool };

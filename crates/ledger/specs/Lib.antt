@@ -1,4 +1,3 @@
 pub mod Stacks
-pub mod Linked
 pub mod Links
 pub mod Ledgers

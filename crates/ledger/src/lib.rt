@@ -5,6 +5,5 @@
 #![tactic(auto)]
 
 mod ledger;
-mod links;
 
-pub use ledger::{Ledger, NotStarted};
+pub use ledger::{HasFrames, Ledger};

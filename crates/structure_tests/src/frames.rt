@@ -5,7 +5,6 @@ use ledger::Ledger;
 fn a_frame_moves_from_top_to_top(rt: HostRuntime) {
     let mut ledger = Ledger::new();
     assert_eq!(rt; ledger.move_top(0, 1), None);
-    assert!(rt; ledger.start(4_097).is_err());
     assert!(rt; ledger.start(3).is_ok());
     assert!(rt; ledger.start(3).is_err());
     assert_eq!(rt; ledger.move_top(0, 5), Some(1));

@@ -7,8 +7,7 @@ use heap::{IndexedHeap, Order};
 #[derive(Clone, Copy)]
 struct Tick(u32);
 
-// The earlier tick leads.
-// Kept: `pool` has a key like this one, which is its own and no test's.
+// The earlier tick leads. The key of `pool` is like this one, but `pool` is built on what is tested here.
 impl Order for Tick {
     ghost leads = { λ a b. nat_le a.0 b.0 };
 

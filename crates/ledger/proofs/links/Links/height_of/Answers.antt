@@ -1,9 +1,0 @@
-use Rattle.std.proofs.Common.{rules, arith}
-use Rattle.ledger.specs.Linked.{empty}
-use Rattle.ledger.proofs.Downs.{length_stack}
-use Rattle.ledger.proofs.links.Links.height_of.Goals as goal
-
-pub returns : goal.returns
-returns c =
-    let read = c.get.ensures.lookup.4 (omega arith) empty in
-    let high = length_stack c.args.self.now.below c.args.self.now.stacks c.args.owner in search rules
