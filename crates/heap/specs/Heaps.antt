@@ -14,7 +14,8 @@
 -- Least       an owner has a key, and it leads all keys of a map
 -- IsRoot      an owner below n with the least key of a map, and that key, or none where the map has no key
 -- Changed     a call has given one owner another key, or none, and has changed nothing else
-use Rattle.std.specs.Prelude.{◌≡◌, ℕ, ◌+◌, ◌-◌, ◌/◌, ◌<◌, ◌≤◌, Bool, true, false, cond, ◌&&◌, List, map, length, is_some, Some, None, MatchOption, Option, ◌==◌, nat_eq, nat_lt, slice_index}
+use Rattle.std.specs.Prelude.{◌≡◌, ℕ, ◌+◌, ◌-◌, ◌/◌, ◌<◌, ◌≤◌, Bool, true, false, cond, ◌&&◌, List, map, length}
+use Rattle.std.specs.Prelude.{is_some, Some, None, MatchOption, Option, ◌==◌, nat_eq, nat_lt, slice_index}
 use Rattle.std.specs.Borrow.{Bor}
 use Rattle.std.specs.List.{slice_get}
 use Rattle.std.specs.Map.{update}
@@ -42,7 +43,9 @@ module _ {K : Type 0} where
 
   abbrev pub IsIndexed : List (Record K) → ℕ → Type 0
   IsIndexed xs n =
-      (n ≤ length xs) × ((i : ℕ) → i < n → owner_at xs i < length xs) × ((i : ℕ) → i < n → place_of xs (owner_at xs i) ≡ i)
+      (n ≤ length xs)
+      × ((i : ℕ) → i < n → owner_at xs i < length xs)
+      × ((i : ℕ) → i < n → place_of xs (owner_at xs i) ≡ i)
 
 abbrev pub parent : ℕ → ℕ
 parent k = (k - 1) / 2

@@ -86,7 +86,8 @@ pub fn take<K: Order>(records: &mut [Record<K>], count: usize, owner: usize) -> 
 
 /// Brings the owner at place i, whose key alone may be out of order, to where it belongs.
 fn sift<K: Order>(records: &mut [Record<K>], count: usize, i: usize)
-    requires { IsIndexed records.old count × (i < count) × Gap (none_first K.Order.leads) (key_at records.old) i count }
+    requires within { IsIndexed records.old count × (i < count) }
+    requires gap { Gap (none_first K.Order.leads) (key_at records.old) i count }
     ensures { Sifted K.Order.leads records.old records.new count }
 {
     if i > 0 && !leads_at(records, count, (i - 1) / 2, i) {
@@ -98,7 +99,8 @@ fn sift<K: Order>(records: &mut [Record<K>], count: usize, i: usize)
 
 /// Moves the owner at place i up past those whose keys come later.
 fn sift_up<K: Order>(records: &mut [Record<K>], count: usize, i: usize)
-    requires { IsIndexed records.old count × (i < count) × Rises (none_first K.Order.leads) (key_at records.old) i count }
+    requires within { IsIndexed records.old count × (i < count) }
+    requires rises { Rises (none_first K.Order.leads) (key_at records.old) i count }
     ensures { Sifted K.Order.leads records.old records.new count }
 {
     let mut at = i;
@@ -115,7 +117,8 @@ fn sift_up<K: Order>(records: &mut [Record<K>], count: usize, i: usize)
 
 /// Moves the owner at place i down past those whose keys come earlier.
 fn sift_down<K: Order>(records: &mut [Record<K>], count: usize, i: usize)
-    requires { IsIndexed records.old count × (i < count) × Sinks (none_first K.Order.leads) (key_at records.old) i count }
+    requires within { IsIndexed records.old count × (i < count) }
+    requires sinks { Sinks (none_first K.Order.leads) (key_at records.old) i count }
     ensures { Sifted K.Order.leads records.old records.new count }
 {
     let mut at = i;

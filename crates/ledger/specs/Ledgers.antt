@@ -2,8 +2,8 @@
 --
 -- stack_of   an owner's stack, from the top down: 0 has the free one, 1 to 256 have theirs, any other number has none
 -- Started    a ledger that had no frames has F of them, all free
--- MovesTop   the top frame of one owner's stack has moved onto another's; none has, and nothing has changed, where the first
---            owner has no frame or there is no other to take it
+-- MovesTop   the top frame of one owner's stack has moved onto another's, or nothing has changed, since the first owner
+--            has no frame or there is no other to take it
 use Rattle.std.specs.Prelude.{◌≡◌, ℕ, ◌≤◌, ◌≢◌, List, [], MatchOption, Option}
 use Rattle.ledger.specs.Stacks.{AllFree, Moved}
 use Rattle.ledger.specs.Links.{stack}

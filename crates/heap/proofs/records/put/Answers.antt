@@ -12,11 +12,11 @@ sift-requires g c =
     let x = c.requires.0.0 in
     let r = rekeyed _ _ c.index-records-owner.result c.args.key c.requires.1 in
     let p = place_read _ _ c.index-records-owner-then-was_in.result (omega (arith, r.long)) ∙ r.places c.args.owner in
-    let l = (some_in _ _ _ (sym (c.if-was_in.ensures))).low in (
-      rekeyed_indexed _ _ _ _ _ r x,
-      omega (arith, p, l),
-      gap (key_laws g.met.K.Order.total g.met.K.Order.chain) _ _ _ _ _ (omega arith) (omega (arith, p, l)) c.requires.0.1 (λ k h d. rekeyed_apart _ _ _ _ _ r x k h (λ e. d (e ∙ sym p))),
-    )
+    let l = (some_in _ _ _ (sym (c.if-was_in.ensures))).low in
+    record {
+      within = (rekeyed_indexed _ _ _ _ _ r x, omega (arith, p, l));
+      gap = gap (key_laws g.met.K.Order.total g.met.K.Order.chain) _ _ _ _ _ (omega arith) (omega (arith, p, l)) c.requires.0.1 (λ k h d. rekeyed_apart _ _ _ _ _ r x k h (λ e. d (e ∙ sym p)));
+    }
 
 pub place_owner-requires : goal.place_owner-requires
 place_owner-requires g c =
@@ -27,11 +27,11 @@ pub sift_up-requires : goal.sift_up-requires
 sift_up-requires g c =
     let x = c.requires.0.0 in
     let r = rekeyed _ _ c.index-records-owner.result c.args.key c.requires.1 in
-    let out = sym (c.if-was_in.ensures) in (
-      added_indexed _ _ _ _ _ r _ c.place_owner.ensures x c.requires.1 out,
-      omega arith,
-      added (key_laws g.met.K.Order.total g.met.K.Order.chain) _ _ _ c.requires.0.1 (added_apart _ _ _ _ _ r _ c.place_owner.ensures x c.requires.1 out),
-    )
+    let out = sym (c.if-was_in.ensures) in
+    record {
+      within = (added_indexed _ _ _ _ _ r _ c.place_owner.ensures x c.requires.1 out, omega arith);
+      rises = added (key_laws g.met.K.Order.total g.met.K.Order.chain) _ _ _ c.requires.0.1 (added_apart _ _ _ _ _ r _ c.place_owner.ensures x c.requires.1 out);
+    }
 
 pub returns-then-was_in : goal.returns-then-was_in
 returns-then-was_in g c =
