@@ -1,10 +1,8 @@
 //! What the broker notes of an admitted client besides its frames.
-ghost use Rattle.std.specs.Prelude.{◌≡◌, ℕ, ◌^◌, ◌<◌, ◌≤◌, Some};
+ghost use Rattle.std.specs.Prelude.{◌≡◌, ℕ, ◌^◌, ◌<◌, ◌≤◌, nat_lt, Some};
 ghost use Rattle.laws.specs.Broker.{active_of};
 
-use rules::Estimate;
-
-mod terms;
+use rules::{Estimate, Offer};
 
 /// A client's terms as it was admitted, and its estimate where one is in force.
 #[derive(Clone, Copy, Drop)]
@@ -19,6 +17,43 @@ pub struct Member {
     ghost low_class: { class ≤ 9 },
     ghost few_frames: { maximum ≤ 4_096 },
     ghost small_active: { (a : ℕ) → active_of estimate ≡ Some a → a < 2 ^ 32 },
+}
+
+impl Member {
+    ghost use Rattle.pool.specs.Members.{offer_at};
+
+    /// The active count that is estimated, if one is.
+    pub fn active(&self) -> Option<u32>
+        ensures { result ≡ active_of self.now.estimate }
+    {
+        self.estimate.map(|estimate| estimate.active)
+    }
+
+    /// What it offers for so many frames.
+    pub fn offer(&self, count: u32) -> Offer
+        ensures { result ≡ offer_at self.now count }
+    {
+        Offer {
+            shares: self.shares,
+            class: self.class,
+            active: self.active(),
+            count,
+        }
+    }
+
+    /// Whether so many frames are fewer than its minimum.
+    pub fn is_below(&self, holding: u32) -> bool
+        ensures { result ≡ nat_lt holding self.now.minimum }
+    {
+        holding < self.minimum
+    }
+
+    /// Whether so many frames are more than its minimum.
+    pub fn is_beyond(&self, holding: u32) -> bool
+        ensures { result ≡ nat_lt self.now.minimum holding }
+    {
+        holding > self.minimum
+    }
 }
 
 /// Sums over all clients.
