@@ -1,5 +1,5 @@
-//! What the broker notes of an admitted client besides its frames.
-ghost use Rattle.std.specs.Prelude.{◌≡◌, ℕ, ◌^◌, ◌<◌, ◌≤◌, nat_lt, Some};
+//! The record of an admitted client.
+ghost use Rattle.std.specs.Prelude.{◌≡◌, ℕ, ◌^◌, ◌<◌, ◌≤◌, Some};
 ghost use Rattle.laws.specs.Broker.{active_of};
 
 use rules::{Estimate, Offer};
@@ -15,12 +15,13 @@ pub struct Member {
     ghost some_shares: { 1 ≤ shares },
     ghost few_shares: { shares ≤ 1_000_000 },
     ghost low_class: { class ≤ 9 },
+    ghost ordered: { minimum ≤ maximum },
     ghost few_frames: { maximum ≤ 4_096 },
     ghost small_active: { (a : ℕ) → active_of estimate ≡ Some a → a < 2 ^ 32 },
 }
 
 impl Member {
-    ghost use Rattle.pool.specs.Members.{offer_at};
+    ghost use Rattle.pool.specs.Records.{offer_at};
 
     /// The active count that is estimated, if one is.
     pub fn active(&self) -> Option<u32>
@@ -40,26 +41,4 @@ impl Member {
             count,
         }
     }
-
-    /// Whether so many frames are fewer than its minimum.
-    pub fn is_below(&self, holding: u32) -> bool
-        ensures { result ≡ nat_lt holding self.now.minimum }
-    {
-        holding < self.minimum
-    }
-
-    /// Whether so many frames are more than its minimum.
-    pub fn is_beyond(&self, holding: u32) -> bool
-        ensures { result ≡ nat_lt self.now.minimum holding }
-    {
-        holding > self.minimum
-    }
-}
-
-/// Sums over all clients.
-// Kept: the project gives the loop over the shares; one over the minimums alone would be its twin, and so would its proof.
-#[derive(Clone, Copy, Drop)]
-pub struct Totals {
-    pub shares: u64,
-    pub minimums: u64,
 }

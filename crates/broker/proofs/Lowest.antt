@@ -1,4 +1,4 @@
--- What the listed bids tell of the broker that the rules speak of.
+-- What the bids say of the broker that the rules speak of.
 use Rattle.std.proofs.Common.{◌≡◌, ℕ, ◌+◌, ◌<◌, ◌≤◌, false, ◌≢◌, ◌⊎◌, [], Some, None, MatchOption, Option, sym, refl, ◌∙◌, subst, inl, inr, arith}
 use Rattle.std.proofs.lemmas.Bool.{not-true, both_ways}
 use Rattle.rules.specs.Offers.{Meaning, Lawful}
@@ -15,8 +15,8 @@ use Rattle.heap.specs.Heaps.{Least}
 use Rattle.price.specs.declared.key.Ranked.{Ranked}
 use Rattle.price.specs.Keys.{KeyOf, outranks, leads}
 use Rattle.price.proofs.Ranks.{ranks_bids}
-use Rattle.broker.specs.declared.payers.Payers.{Payers}
-use Rattle.broker.specs.Bids.{listed, Lists, Listed, Relisted}
+use Rattle.broker.specs.declared.bids.Bids.{Bids}
+use Rattle.broker.specs.Bids.{bid_in, IsBid, AreBids, Renews, IsLowest}
 
 module _ (m : Meaning) (v : Broker) where
   -- the bid of a client at its holding, and for a frame more
@@ -26,15 +26,15 @@ module _ (m : Meaning) (v : Broker) where
   abbrev pub next_bid : ℕ → Bid
   next_bid c = bid_of (present v) c (holding v c + 1)
 
-  -- who holds more than its minimum is listed with its bid
-  in_list : (c : ℕ) (o : Option Ranked) → Lists m v c o → Beyond v c → (k : Ranked) × (o ≡ Some k) × KeyOf m (bid c) k
-  in_list c None l g = absurd (l g)
-  in_list c (Some k) l g = (k, refl, l.1)
+  -- who holds more than its minimum has its bid in
+  has_bid : (c : ℕ) (o : Option Ranked) → IsBid m v c o → Beyond v c → (k : Ranked) × (o ≡ Some k) × KeyOf m (bid c) k
+  has_bid c None l g = absurd (l g)
+  has_bid c (Some k) l g = (k, refl, l.1)
 
-  module _ (ks : ℕ → Option Ranked) (all : Listed m v ks) where
-    -- who is listed holds more than its minimum, and is listed with its bid
-    listed_bid : (c : ℕ) (k : Ranked) → ks c ≡ Some k → Beyond v c × KeyOf m (bid c) k
-    listed_bid c k e = rw e at (all c)
+  module _ (ks : ℕ → Option Ranked) (all : AreBids m v ks) where
+    -- whose bid is in holds more than its minimum
+    bid_of_in : (c : ℕ) (k : Ranked) → ks c ≡ Some k → Beyond v c × KeyOf m (bid c) k
+    bid_of_in c k e = rw e at (all c)
 
     nobody_pays : ((o : ℕ) → ks o ≡ None) → (c : ℕ) → Beyond v c → ⊥
     nobody_pays none c = rw (none c) at (all c)
@@ -45,22 +45,22 @@ module _ (m : Meaning) (v : Broker) where
     module _ (k : Ranked) (found : (o : ℕ) × Least leads ks o k) where
       -- the lowest bid says whose it is
       least : Least leads ks k.client k
-      least = subst (λ (n : ℕ). Least leads ks n k) (sym (listed_bid found.0 k found.1.has).1.client) found.1
+      least = subst (λ (n : ℕ). Least leads ks n k) (sym (bid_of_in found.0 k found.1.has).1.client) found.1
 
       pub lowest_is : LowestPayer m v k.client
       lowest_is =
-          let (beyond, own) = listed_bid k.client k least.has in
+          let (beyond, own) = bid_of_in k.client k least.has in
           record {
             beyond = beyond;
             lowest = λ d g.
-                let (j, e, u) = in_list d (ks d) (all d) g in
+                let (j, e, u) = has_bid d (ks d) (all d) g in
                 sym (ranks_bids k j m (bid k.client) (bid d) own u) ∙ not-true (outranks k j) (least.leads d j e);
           }
 
       module _ (c : ℕ) (j : Ranked) (next : KeyOf m (next_bid c) j) where
-        -- the rank of a client's next bid over the lowest listed is that of the rules
+        -- the rank of a client's next bid over the lowest is that of the rules
         pub next_ranks : outranks j k ≡ above m (next_bid c) (bid k.client)
-        next_ranks = ranks_bids j k m (next_bid c) (bid k.client) next (listed_bid k.client k least.has).1
+        next_ranks = ranks_bids j k m (next_bid c) (bid k.client) next (bid_of_in k.client k least.has).1
 
         pub is_outbid : minimum_of (present v) c ≤ holding v c → outranks j k ≡ false → v.free ≡ [] → IsOutbid m v c
         is_outbid low under e = (e, λ q t. refuse q t.0 t.1)
@@ -70,7 +70,7 @@ module _ (m : Meaning) (v : Broker) where
             refuse q l (inr g) = both_ways (outranks j k) under (next_ranks ∙ rw (one_payer m v q k.client l lowest_is) at g)
 
     -- the client of the lowest bid, where there is one, is the lowest payer
-    pub lowest_told : (o : Option Ranked) (r : Option ℕ) → MatchOption o ((c : ℕ) → ks c ≡ None) (λ k. (c : ℕ) × Least leads ks c k) →
+    pub lowest_told : (o : Option Ranked) (r : Option ℕ) → IsLowest ks o →
         MatchOption o (r ≡ None) (λ k. r ≡ Some k.client) → LowestIs m v r
     lowest_told (Some k) r found told = rw told (lowest_is k found)
     lowest_told None r none told = rw told (nobody_pays none)
@@ -85,14 +85,14 @@ module _ (m : Meaning) (v : Broker) where
       (rank_is_one_order m l).one_way (next_bid c) (bid c) next now g
       ((rank_is_one_order m l).own_fall c (terms (present v c)) (holding v c) (holding v c + 1) now next (omega arith))
 
--- what is listed of a client depends on that client alone
-pub same_lists : (m : Meaning) (v w : Broker) (c : ℕ) → w.clients c ≡ v.clients c → (o : Option Ranked) → Lists m v c o → Lists m w c o
-same_lists m v w c e None l = rw (e, minimum_of, terms_of) l
-same_lists m v w c e (Some k) l = rw (e, minimum_of, terms_of, terms) l
+-- a client's bid depends on that client alone
+pub same_bid : (m : Meaning) (v w : Broker) (c : ℕ) → w.clients c ≡ v.clients c → (o : Option Ranked) → IsBid m v c o → IsBid m w c o
+same_bid m v w c e None l = rw (e, minimum_of, terms_of) l
+same_bid m v w c e (Some k) l = rw (e, minimum_of, terms_of, terms) l
 
--- where all other clients are listed, and one is listed anew, all are
-pub relisted : {m : Meaning} {w : Broker} {c : ℕ} {p q : Payers} → Relisted m w c p q → ((d : ℕ) → d ≢ c → Lists m w d (listed p d)) → Listed m w (listed q)
-relisted {m} {w} {c} {p} {q} r others = each_but c (λ d. Lists m w d (listed q d)) r.anew (λ d ne. rw (r.others d ne) (others d ne))
+-- where all other bids are right, and one is renewed, all are
+pub renewed : {m : Meaning} {w : Broker} {c : ℕ} {p q : Bids} → Renews m w c p q → ((d : ℕ) → d ≢ c → IsBid m w d (bid_in p d)) → AreBids m w (bid_in q)
+renewed {m} {w} {c} {p} {q} r others = each_but c (λ d. IsBid m w d (bid_in q d)) r.anew (λ d ne. rw (r.others d ne) (others d ne))
 
-pub new_listed : (m : Meaning) (ks : ℕ → Option Ranked) → ((c : ℕ) → ks c ≡ None) → Listed m new_broker ks
-new_listed m ks none c = rw (none c) (omega arith)
+pub no_bids : (m : Meaning) (ks : ℕ → Option Ranked) → ((c : ℕ) → ks c ≡ None) → AreBids m new_broker ks
+no_bids m ks none c = rw (none c) (omega arith)
