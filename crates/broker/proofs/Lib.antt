@@ -1,6 +1,5 @@
-pub mod Bids
+pub mod Lowest
 mod Others
-pub mod Noted
 pub mod Steps
 mod Asks
 mod Clock

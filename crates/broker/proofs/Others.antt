@@ -1,4 +1,4 @@
--- A call on one client leaves the others, and the list of bids stays kept.
+-- A call on one client leaves the others, and the bids stay right.
 use Rattle.std.proofs.Common.{◌≡◌, ℕ, ◌≢◌, Some, None, Option, Ok, Err, Result, refl, ap, ◌∙◌, arith}
 use Rattle.rules.specs.Offers.{Meaning}
 use Rattle.rules.specs.declared.refusal.Refusal.{Refusal}
@@ -13,10 +13,10 @@ use Rattle.laws.proofs.Kept.{held_of}
 use Rattle.laws.proofs.Puts.{each_but, put_at, put_off}
 use Rattle.price.specs.declared.key.Ranked.{Ranked}
 use Rattle.price.specs.declared.telling.Price.{Ghosts}
-use Rattle.broker.specs.declared.payers.Payers.{Payers}
-use Rattle.broker.specs.Bids.{listed, Lists, Listed, Relisted}
+use Rattle.broker.specs.declared.bids.Bids.{Bids}
+use Rattle.broker.specs.Bids.{bid_in, IsBid, AreBids, Renews}
 use Rattle.broker.specs.View.{Broker, meaning, view}
-use Rattle.broker.proofs.Bids.{same_lists, relisted}
+use Rattle.broker.proofs.Lowest.{same_bid, renewed}
 
 -- the call, so answered, leaves this client: a refused one leaves all, an accepted one all but the client that it is of and,
 -- of an ask, the former owner; a clock may change any
@@ -41,22 +41,22 @@ step_others (Calls.accepted s (Calls.granted_free g h)) d o = put_off _ _ _ d o.
 step_others (Calls.accepted s (Calls.granted_from g h k l n)) d o = put_off _ _ _ d o.0 ∙ put_off _ _ _ d o.1
 step_others (Calls.accepted s e) d o = put_off _ _ _ d o
 
--- whom a call spares it leaves listed
-pub spared : {P : Type 0} {g : Ghosts P} (b : Broker P g) {x : Call} {a : Result Answer Refusal} {w : rules.Broker} → Step (meaning b) (view b) x a w → (d : ℕ) → Spares x a d → Lists (meaning b) w d (listed b.payers d)
-spared b {w = w} s d o = same_lists (meaning b) (view b) w d (step_others s d o) (listed b.payers d) (b.kept d)
+-- the bid of a client that a call spares stays right
+pub spared : {P : Type 0} {g : Ghosts P} (b : Broker P g) {x : Call} {a : Result Answer Refusal} {w : rules.Broker} → Step (meaning b) (view b) x a w → (d : ℕ) → Spares x a d → IsBid (meaning b) w d (bid_in b.bids d)
+spared b {w = w} s d o = same_bid (meaning b) (view b) w d (step_others s d o) (bid_in b.bids d) (b.kept d)
 
--- an ask leaves them listed, once the client that asks and then the former owner are listed anew
-pub asked_listed : {P : Type 0} {g : Ghosts P} (b : Broker P g) {c : ℕ} {s : SlipNumbers} {w : rules.Broker} {p q : Payers} → Step (meaning b) (view b) (Ask c) (Ok (Granted s)) w →
-    Relisted (meaning b) w c b.payers p → Relisted (meaning b) w s.former p q → Listed (meaning b) w (listed q)
-asked_listed b {c} {s} {w} {p} step r t =
-    relisted t (each_but c (λ d. d ≢ s.former → Lists (meaning b) w d (listed p d)) (λ n. r.anew) (λ d ne n. rw (r.others d ne) (spared b step d (ne, n))))
+-- after an ask all are right, once those of the asker and then of the former owner are renewed
+pub asked_bids : {P : Type 0} {g : Ghosts P} (b : Broker P g) {c : ℕ} {s : SlipNumbers} {w : rules.Broker} {p q : Bids} → Step (meaning b) (view b) (Ask c) (Ok (Granted s)) w →
+    Renews (meaning b) w c b.bids p → Renews (meaning b) w s.former p q → AreBids (meaning b) w (bid_in q)
+asked_bids b {c} {s} {w} {p} step r t =
+    renewed t (each_but c (λ d. d ≢ s.former → IsBid (meaning b) w d (bid_in p d)) (λ n. r.anew) (λ d ne n. rw (r.others d ne) (spared b step d (ne, n))))
 
--- a client that is admitted holds nothing, and was not listed before
-pub admitted_listed : {P : Type 0} {g : Ghosts P} (b : Broker P g) {x : Admission} {a : Result Answer Refusal} {w : rules.Broker} → Step (meaning b) (view b) (Admit x) a w → Listed (meaning b) w (listed b.payers)
-admitted_listed b (Calls.refused q) = b.kept
-admitted_listed b {x} {a} {w} (Calls.accepted clear Calls.admitted) =
-    each_but x.client (λ d. Lists (meaning b) w d (listed b.payers d)) (fresh (listed b.payers x.client) (b.kept x.client)) (spared b (Calls.accepted clear Calls.admitted))
+-- a client that is admitted holds nothing, and had no bid before
+pub admitted_bids : {P : Type 0} {g : Ghosts P} (b : Broker P g) {x : Admission} {a : Result Answer Refusal} {w : rules.Broker} → Step (meaning b) (view b) (Admit x) a w → AreBids (meaning b) w (bid_in b.bids)
+admitted_bids b (Calls.refused q) = b.kept
+admitted_bids b {x} {a} {w} (Calls.accepted clear Calls.admitted) =
+    each_but x.client (λ d. IsBid (meaning b) w d (bid_in b.bids d)) (fresh (bid_in b.bids x.client) (b.kept x.client)) (spared b (Calls.accepted clear Calls.admitted))
   where
-    fresh : (o : Option Ranked) → Lists (meaning b) (view b) x.client o → Lists (meaning b) w x.client o
+    fresh : (o : Option Ranked) → IsBid (meaning b) (view b) x.client o → IsBid (meaning b) w x.client o
     fresh None _ = rw put_at (omega arith)
     fresh (Some j) was = absurd (denied (meaning b) (view b) (Admit x) AlreadyAdmitted clear (λ none. omega (arith, was.0, ap held_of none)))

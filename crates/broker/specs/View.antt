@@ -9,23 +9,26 @@
 -- Opens        the slip of a client's ask opened its passage, and took no frame of its own
 -- delivered    the answer to a delivery
 -- Stepped      a call on a broker is a step of the rules, and leaves the price
--- Dropping     estimates that end by a tick were dropped, so many, and nothing else was changed
--- Ended        so were all of them
--- Sourced      where the frame of an ask comes from, or why there is none
+-- IsPriceAt    the price of a client at a count
+-- DropsSoFar   estimates that end by a tick were dropped, so many, and nothing else was changed
+-- DropsAll     so were all of them
+-- FindsSource  where the frame of an ask comes from, or why there is none
 use Rattle.std.specs.Prelude.{◌≡◌, ℕ, ◌≢◌, List, ◌∷◌, Some, Result}
 use Rattle.std.specs.Result.{result_map_both}
+use Rattle.rules.specs.declared.offer.Quote.{Quote}
 use Rattle.rules.specs.Offers.{Meaning}
 use Rattle.rules.specs.Refusals.{Replies}
 use Rattle.rules.specs.declared.refusal.Refusal.{Refusal}
 use Rattle.laws.specs.Broker as rules
 use Rattle.laws.specs.Broker.{SlipNumbers}
 use Rattle.laws.specs.Calls.{Call, Ask, Answer, Done, Step, moved, ends, entries}
+use Rattle.laws.specs.Questions.{price_at}
 use Rattle.laws.specs.Histories.{Event, event, Run}
 use Rattle.laws.specs.Guarantees.{Guarantees}
 use Rattle.price.specs.declared.telling.Price.{Ghosts}
 use Rattle.pool.specs.View as pool
-use Rattle.pool.specs.View.{Source}
-use Rattle.pool.specs.Clocks.{Clocked}
+use Rattle.pool.specs.View.{IsSource}
+use Rattle.pool.specs.Clocks.{DropsMany}
 use Rattle.broker.specs.declared.slip.Undelivered.{Undelivered}
 pub use Rattle.broker.specs.declared.broker.Broker.{Broker}
 
@@ -61,13 +64,16 @@ pub record Stepped {P : Type 0} {g : Ghosts P} (before : Broker P g) (x : Call) 
   pub history : (h : List Event) → Led h before → Led (event x a (view after) ∷ h) after
   pub guarantees : (h : List Event) → Led h before → Guarantees (meaning after) (event x a (view after) ∷ h)
 
-pub record Dropping {P : Type 0} {g : Ghosts P} (t : ℕ) (before : Broker P g) (n : ℕ) (after : Broker P g) : Type 0 where
+abbrev pub IsPriceAt : {P : Type 0} {g : Ghosts P} → Broker P g → ℕ → ℕ → Quote → Type 0
+IsPriceAt b c count q = q ≡ price_at (meaning b) (view b) c count
+
+pub record DropsSoFar {P : Type 0} {g : Ghosts P} (t : ℕ) (before : Broker P g) (n : ℕ) (after : Broker P g) : Type 0 where
   pub price : after.price ≡ before.price
   pub rest : view after ≡ moved (view before) (view before).free (view after).clients
-  pub clocked : Clocked t (view before).clients n (view after).clients
+  pub many : DropsMany t (view before).clients n (view after).clients
 
-abbrev pub Ended : {P : Type 0} {g : Ghosts P} → ℕ → Broker P g → ℕ → Broker P g → Type 0
-Ended t before n after = Dropping t before n after × ((c : ℕ) → ends t ((view after).clients c) ≡ 0)
+abbrev pub DropsAll : {P : Type 0} {g : Ghosts P} → ℕ → Broker P g → ℕ → Broker P g → Type 0
+DropsAll t before n after = DropsSoFar t before n after × ((c : ℕ) → ends t ((view after).clients c) ≡ 0)
 
-abbrev pub Sourced : {P : Type 0} {g : Ghosts P} → Broker P g → ℕ → Result ℕ Refusal → Type 0
-Sourced b c r = Replies (entries (meaning b) (view b) (Ask c)) (λ p. Source (meaning b) (view b) c p × (p ≢ c)) r
+abbrev pub FindsSource : {P : Type 0} {g : Ghosts P} → Broker P g → ℕ → Result ℕ Refusal → Type 0
+FindsSource b c r = Replies (entries (meaning b) (view b) (Ask c)) (λ p. IsSource (meaning b) (view b) c p × (p ≢ c)) r

@@ -1,8 +1,8 @@
 //! The broker: it shares the frames of one pool among up to 256 clients under a price.
 #![tactic(auto)]
 
+mod bids;
 mod broker;
-mod payers;
 mod slip;
 
 pub use broker::Broker;

@@ -3,10 +3,9 @@ ghost use Rattle.std.specs.Prelude.{◌≡◌, true};
 
 use rules::{Refusal, SlipNumbers};
 
-/// The slip of an accepted ask, which may be let go only once a delivery has spent it.
+/// The slip of an accepted ask, which may be let go only once a delivery has spent it. The mark is what its drop looks at.
 pub struct Slip {
     pub(crate) numbers: SlipNumbers,
-    // Kept: the mark without which a slip may not be let go is a form that the project gives.
     pub(crate) spent: bool,
 }
 

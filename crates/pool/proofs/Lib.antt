@@ -1,10 +1,9 @@
 pub mod Views
+pub mod Records
 pub mod Starts
-pub mod Totals
 pub mod Tables
 pub mod Changes
 pub mod Grants
-pub mod Ticks
 pub mod Clocks
 pub mod Drops
 pub mod Nexts

@@ -1,5 +1,5 @@
-pub mod Ticks
 pub mod Ends
+pub mod Records
 pub mod Members
 pub mod View
 pub mod Clocks

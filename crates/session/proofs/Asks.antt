@@ -19,7 +19,7 @@ use Rattle.session.specs.declared.printed.Grant.{Grant}
 use Rattle.session.specs.declared.printed.Printed.TheVariants as line
 use Rattle.session.specs.Session.{Performed, taken_of, grant_of, granted}
 use Rattle.session.specs.Asks.{HasPrice, Lost, taken_from, grant_after}
-use Rattle.session.proofs.Holding.{few_held}
+use Rattle.pool.proofs.Tables.{few_held}
 
 -- what an ask that is granted leaves
 pub record Leaves (m : Meaning) (b : rules.Broker) (c : ℕ) (s : SlipNumbers) (g : rules.Broker) : Type 0 where

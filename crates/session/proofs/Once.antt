@@ -8,7 +8,7 @@ use Rattle.laws.specs.Broker.{Broker}
 use Rattle.laws.specs.Calls.{Call, Answer, Step}
 use Rattle.laws.specs.Histories as history
 use Rattle.laws.proofs.One.{one_answer}
-use Rattle.pool.specs.View.{NextClient}
+use Rattle.pool.specs.View.{IsNextClient}
 use Rattle.session.specs.declared.printed.Printed.{Printed}
 use Rattle.session.specs.Session as session
 use Rattle.session.specs.Session.{call_of, Performs, LinePerforms}
@@ -53,7 +53,7 @@ module _ (m : Meaning) (b : Broker) where
   line_once {text} (session.malformed {r = o} u) (session.performed {e = e} v s) = let z = one_verdict text (Ok e) (Err o) v u in (cc, cc)
   line_once {text} (session.malformed {r = o} u) (session.malformed {r = p} v) = let z = one_verdict text (Err o) (Err p) u v in (cc, refl)
 
-  next_once : (n c d : ℕ) → NextClient b n (Some c) → NextClient b n (Some d) → c ≡ d
+  next_once : (n c d : ℕ) → IsNextClient b n (Some c) → IsNextClient b n (Some d) → c ≡ d
   next_once n c d x y = grind arith
 
   report_once : (n : ℕ) (vs ws : List Printed) → Reports m b n vs → Reports m b n ws → vs ≡ ws

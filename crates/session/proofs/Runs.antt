@@ -12,7 +12,7 @@ use Rattle.laws.specs.Broker as rules
 use Rattle.laws.specs.Broker.{holding}
 use Rattle.laws.specs.Questions.{price_entries, price_at}
 use Rattle.laws.proofs.One.{first_or_clear}
-use Rattle.pool.specs.View.{NextClient}
+use Rattle.pool.specs.View.{IsNextClient}
 use Rattle.broker.specs.declared.broker.Broker.{Broker}
 use Rattle.broker.specs.View.{meaning, view}
 use Rattle.price.specs.declared.telling.Price.{Ghosts}
@@ -23,7 +23,8 @@ use Rattle.session.specs.declared.run.Stage.TheVariants.{Reading, Reporting}
 use Rattle.session.specs.Session.{Lined}
 use Rattle.session.specs.Run.{held_of, Reports, StillAt, StillPrints, left_at, left, Nexts, Run, Gives, over, client, report, then, none, some}
 use Rattle.session.proofs.Printing.{stays}
-use Rattle.session.proofs.Holding.{few_held, holder_there, there_numbered, price_told}
+use Rattle.pool.proofs.Tables.{few_held}
+use Rattle.session.proofs.Holding.{holder_there, there_numbered, price_told}
 
 -- who has no price holds nothing
 pub unpriced : {P : Type 0} {g : Ghosts P} (b : Broker P g) (c n : ℕ) → n ≡ holding (view b) c → (r : Result Quote Refusal) →
@@ -49,7 +50,7 @@ module _ {P : Type 0} {g : Ghosts P} (before : Run P g) where
   At s vs = StillAt m b before.number rest s vs
 
   -- the end of the report
-  pub none_next : {k : ℕ} → before.stage ≡ Reporting k → NextClient b k None → Nexts before None before
+  pub none_next : {k : ℕ} → before.stage ≡ Reporting k → IsNextClient b k None → Nexts before None before
   none_next e h =
       let nothing : At before.stage [] = rw e (over h) in
       record { prints = (nothing, nothing); continues = stays refl; falls = tt }
@@ -65,7 +66,7 @@ module _ {P : Type 0} {g : Ghosts P} (before : Run P g) where
     free_next e empty same now told = reported same now (λ vs more. rw (told, e) ([], input.none empty, report more)) (rw e (omega arith))
 
     -- one client of the report
-    pub client_next : {k c : ℕ} → before.stage ≡ Reporting k → NextClient b k (Some c) → after.session ≡ before.session → after.stage ≡ Reporting c → p ≡ line.Client c (held_of m b c) → Nexts before (Some p) after
+    pub client_next : {k c : ℕ} → before.stage ≡ Reporting k → IsNextClient b k (Some c) → after.session ≡ before.session → after.stage ≡ Reporting c → p ≡ line.Client c (held_of m b c) → Nexts before (Some p) after
     client_next {c = c} e h same now told =
         reported same now (λ vs more. rw (told, e) (client h more)) (rw e (omega (arith, there_numbered before.session.broker.pool c h.1, h.0)))
 

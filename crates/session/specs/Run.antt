@@ -29,7 +29,7 @@ use Rattle.laws.specs.Broker as rules
 use Rattle.laws.specs.Broker.{holding}
 use Rattle.laws.specs.Histories as history
 use Rattle.laws.specs.Questions.{price_at}
-use Rattle.pool.specs.View.{NextClient}
+use Rattle.pool.specs.View.{IsNextClient}
 use Rattle.broker.specs.View.{meaning, view, Led, Guaranteed}
 use Rattle.price.specs.declared.telling.Price.{Ghosts}
 use Rattle.session.specs.declared.printed.Held.{Held}
@@ -49,8 +49,8 @@ abbrev pub held_of : Meaning → rules.Broker → ℕ → Option Held
 held_of m b c = held_at m b c (holding b c)
 
 pub data Reports (m : Meaning) (b : rules.Broker) : ℕ → List Printed → Type 0 where
-  over : {n : ℕ} → NextClient b n None → Reports m b n []
-  client : {n c : ℕ} {vs : List Printed} → NextClient b n (Some c) → Reports m b c vs → Reports m b n (line.Client c (held_of m b c) ∷ vs)
+  over : {n : ℕ} → IsNextClient b n None → Reports m b n []
+  client : {n c : ℕ} {vs : List Printed} → IsNextClient b n (Some c) → Reports m b c vs → Reports m b n (line.Client c (held_of m b c) ∷ vs)
 
 pub data PrintsAll (m : Meaning) : rules.Broker → ℕ → List (List ℕ) → List Printed → Type 0 where
   report : {b : rules.Broker} {n : ℕ} {vs : List Printed} → Reports m b 0 vs → PrintsAll m b n [] (line.Free (length b.free) ∷ vs)

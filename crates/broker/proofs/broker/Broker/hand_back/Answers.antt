@@ -1,6 +1,6 @@
 use Rattle.std.proofs.Common.{refl}
 use Rattle.std.proofs.lemmas.Result.{err_from_is_err_and}
-use Rattle.broker.proofs.Bids.{relisted}
+use Rattle.broker.proofs.Lowest.{renewed}
 use Rattle.broker.proofs.Others.{spared}
 use Rattle.broker.proofs.Steps.{stepped}
 use Rattle.broker.proofs.broker.Broker.hand_back.Goals as goal
@@ -14,7 +14,7 @@ returns-in_err-frame g c =
     rw (p.1, p.2) (stepped (c.in_err-frame.ensures _) refl)
 
 pub invariant_of-self-2 : goal.invariant_of-self-2
-invariant_of-self-2 g c = record { kept = relisted c.relist.ensures (spared c.args.self.now (c.in_ok-frame.ensures _)) }
+invariant_of-self-2 g c = record { kept = renewed c.renew.ensures (spared c.args.self.now (c.in_ok-frame.ensures _)) }
 
 pub returns : goal.returns
 returns g c = stepped (c.in_ok-frame.ensures _) refl

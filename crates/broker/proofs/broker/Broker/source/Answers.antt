@@ -1,5 +1,4 @@
 use Rattle.std.proofs.Common.{sym, ◌∙◌, arith}
-use Rattle.std.proofs.lemmas.Bool.{ltb-true, ltb-false}
 use Rattle.std.proofs.lemmas.Result.{err_from_is_err_and}
 use Rattle.broker.proofs.Asks.{nobody_lower, taken_below, taken_above, outbid_by_lowest, error_is}
 use Rattle.broker.proofs.broker.Broker.source.Goals as goal
@@ -15,19 +14,18 @@ pub returns-then-not-ranks_above : goal.returns-then-not-ranks_above
 returns-then-not-ranks_above g c =
     let (clear, noted) = c.in_ok-member.ensures in
     let found = rw c.in_ok-lowest.ensures.ok_part at c.lowest.ensures in
-    outbid_by_lowest c.args.self.now c.args.client clear (omega arith) _ found noted c.height-holding.ensures c.bid-bid.ensures
-    (ltb-false _ _ (sym c.if-not-is_below.ensures)) (sym c.if-not-ranks_above.ensures.keys)
+    outbid_by_lowest c.args.self.now c.args.client clear (omega arith) _ found noted c.holding-holding.ensures c.bid-bid.ensures
+    c.if-holding-member.true (sym c.if-not-ranks_above.ensures.keys)
 
 pub returns-else-not-ranks_above : goal.returns-else-not-ranks_above
 returns-else-not-ranks_above g c =
     let (clear, noted) = c.in_ok-member.ensures in
     let found = rw c.in_ok-lowest.ensures.ok_part at c.lowest.ensures in
-    taken_above c.args.self.now c.args.client clear (omega arith) _ found noted c.height-holding.ensures c.bid-bid.ensures
+    taken_above c.args.self.now c.args.client clear (omega arith) _ found noted c.holding-holding.ensures c.bid-bid.ensures
     (sym c.ranks_above.ensures.keys ∙ c.if-not-ranks_above.false)
 
-pub returns-else-not-is_below : goal.returns-else-not-is_below
-returns-else-not-is_below g c =
+pub returns-else-holding-member : goal.returns-else-holding-member
+returns-else-holding-member g c =
     let (clear, noted) = c.in_ok-member.ensures in
     let found = rw c.in_ok-lowest.ensures.ok_part at c.lowest.ensures in
-    taken_below c.args.self.now c.args.client clear (omega arith) _ found noted c.height-holding.ensures
-    (ltb-true _ _ (sym c.is_below.ensures ∙ c.if-not-is_below.false))
+    taken_below c.args.self.now c.args.client clear (omega arith) _ found noted c.holding-holding.ensures c.if-holding-member.false
