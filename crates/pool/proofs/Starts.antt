@@ -31,8 +31,8 @@ no_stack l e o =
 pub start_step : (m : Meaning) (b : Pool) (k : Ledger) (u F : ℕ) → Started b.ledger k F → IsClear m (view b) (Start u F) →
     Step m (view b) (Start u F) (Ok Done) (seen (record (view b) { unit = u }) b.members k)
 start_step m b k u F s clear =
-    from_parts (Step m (view b) (Start u F) (Ok Done)) (record (view b) { unit = u }) s.frames (s.filled.free ∙ counted 1 F)
-    (fun_ext (λ c. same_client b.members (stack_of b.ledger) (stack_of k) c (λ pos. s.filled.others c pos ∙ sym (no_stack b.ledger s.none_before c)))) (accepted clear started)
+    from_parts (Step m (view b) (Start u F) (Ok Done)) (record (view b) { unit = u }) s.frames (s.all_free.free ∙ counted 1 F)
+    (fun_ext (λ c. same_client b.members (stack_of b.ledger) (stack_of k) c (λ pos. s.all_free.others c pos ∙ sym (no_stack b.ledger s.none_before c)))) (accepted clear started)
 
 -- what a clause says of a result whose variant is known
 pub at_ok : {T E : Type 0} (P : T → Type 0) (Q : E → Type 0) (r : Result T E) → true ≡ is_ok r → MatchResult r P Q → (x : T) × P x
