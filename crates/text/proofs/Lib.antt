@@ -1,2 +1,2 @@
-pub mod Cuts
-pub mod Numbers
+pub mod Kept
+pub mod PlainNumbers

@@ -1,8 +1,8 @@
 -- What a text says, and what writing it into a buffer does.
 --
--- spelt    the bytes of a text
--- cut      what a text keeps of some bytes: the first 128
--- Placed   some bytes were written to the front of a buffer, or refused, and what the buffer then holds
+-- spelt           the bytes of a text
+-- kept            what a text keeps of some bytes: the first 128
+-- WritesToFront   some bytes are written to the front of a buffer, or refused, and this is what the buffer then holds
 use Rattle.std.specs.Prelude.{◌≡◌, ℕ, List, ◌++◌, length, take, drop, Err, Result}
 use Rattle.rules.specs.declared.refusal.Refusal.{Refusal}
 use Rattle.rules.specs.Refusals.{Replies, buffer_entries}
@@ -11,12 +11,12 @@ use Rattle.text.specs.declared.text.Text.{Text}
 abbrev pub spelt : Text → List ℕ
 spelt t = t.line.items
 
-unfoldable pub cut : List ℕ → List ℕ
-cut bs = take 128 bs
+unfoldable pub kept : List ℕ → List ℕ
+kept bs = take 128 bs
 
-pub record Placed (bs before : List ℕ) (r : Result ℕ Refusal) (after : List ℕ) : Type 0 where
-  -- refused where the buffer is too short; else the answer is their length, they stand at the front, and all behind them is
-  -- as it was
+pub record WritesToFront (bs before : List ℕ) (r : Result ℕ Refusal) (after : List ℕ) : Type 0 where
+  -- Refused where the buffer is too short. Else their length is returned, they stand at the front, and all behind them is as
+  -- it was.
   pub replies : Replies (buffer_entries (length bs) (length before)) (λ n. (n ≡ length bs) × (after ≡ bs ++ drop (length bs) before)) r
   -- a refused buffer stays as it was
-  pub kept : (e : Refusal) → r ≡ Err e → after ≡ before
+  pub stays : (e : Refusal) → r ≡ Err e → after ≡ before

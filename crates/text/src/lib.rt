@@ -1,4 +1,4 @@
-//! Lines of text put together in fixed memory, and written into a lent buffer or refused.
+//! Lines of text put together in fixed memory, and written into a borrowed buffer or refused.
 #![tactic(auto)]
 
 mod line;

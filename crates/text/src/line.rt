@@ -1,7 +1,7 @@
 //! Values that are each a line of text.
 ghost use Rattle.std.specs.Prelude.{◌≡◌, ℕ, ◌≤◌, List, [], ◌∷◌, ◌++◌, length, OnOk};
 ghost use Rattle.std.specs.Io.KnownBytes.{Appends};
-ghost use Rattle.text.specs.Texts.{Placed, cut, spelt};
+ghost use Rattle.text.specs.Texts.{WritesToFront, kept, spelt};
 
 use crate::Text;
 use rules::Refusal;
@@ -9,18 +9,20 @@ use std::io;
 use std::io::Write;
 
 /// A value with a line of its own, of at most 128 bytes.
-// Kept: `Display` is not this trait, since `write!` never promises `Ok`, and `write` could not promise what it does.
+///
+/// It stands in place of `Display`, since `write!` never promises `Ok`, and a buffer of bytes could then not promise what
+/// it holds.
 pub trait Line {
     /// The bytes of the line, without a newline.
     ghost spelling: { Self → List ℕ };
 
-    /// Puts the line, without a newline, behind a text. It takes 128 bytes at most.
+    /// Appends the line, without a newline, to a text. It takes 128 bytes at most.
     fn add_to(&self, text: &mut Text)
         ensures short { length (spelling self.now) ≤ 128 }
-        ensures text { spelt text.new ≡ cut (spelt text.old ++ spelling self.now) };
+        ensures text { spelt text.new ≡ kept (spelt text.old ++ spelling self.now) };
 
     /// The line, without a newline.
-    #[tactic(auto, using(crate::proofs::Cuts::joined))]
+    #[tactic(auto, using(crate::proofs::Kept::joined))]
     final fn line(&self) -> Text
         ensures { spelt result ≡ spelling self.now }
     {
@@ -29,21 +31,21 @@ pub trait Line {
         text
     }
 
-    /// Writes the line, without a newline, to the front of a lent buffer and answers its length, at most 128. A buffer
-    /// too short for it is refused, and stays as it was.
+    /// Writes the line, without a newline, to the front of a borrowed buffer and returns its length, at most 128. A
+    /// buffer too short for it is refused, and stays as it was.
     final fn write(&self, out: &mut [u8]) -> Result<usize, Refusal>
         ensures short { length (spelling self.now) ≤ 128 }
-        ensures placed { Placed (spelling self.now) out.old result out.new }
+        ensures writes { WritesToFront (spelling self.now) out.old result out.new }
     {
         self.line().write(out)
     }
 
     /// Prints the line and a newline.
-    #[tactic(auto, using(crate::proofs::Cuts::joined))]
+    #[tactic(auto, using(crate::proofs::Kept::joined))]
     final fn print<W: Write>(&self, out: &mut W) -> io::Result<()>
         ensures { OnOk result (Appends (W.contents out.old) (W.contents out.new) (spelling self.now ++ 10 ∷ [])) }
     {
-        // In place: a text that a function gives back is copied on its way.
+        // In place: a text that a function returns is copied on its way.
         let mut line = Text::new();
         self.add_to(&mut line);
         line.print(out)

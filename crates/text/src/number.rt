@@ -3,7 +3,7 @@ ghost use Rattle.std.specs.Prelude.{◌≡◌, ℕ, ◌^◌, ◌<◌, decimal, M
 
 /// The number that some bytes write in plain decimal: digits alone, with no zero in front of others, and of at most
 /// 32 bits.
-#[tactic(auto, using(crate::proofs::Numbers::plain))]
+#[tactic(auto, using(crate::proofs::PlainNumbers::plain))]
 pub fn plain_number(bytes: &[u8]) -> Option<u32>
     ensures { MatchOption result ((n : ℕ) → n < 2 ^ 32 → bytes.now ≢ decimal n) (λ n. (n < 2 ^ 32) × (bytes.now ≡ decimal n)) }
 {
@@ -13,7 +13,7 @@ pub fn plain_number(bytes: &[u8]) -> Option<u32>
     if bytes.len() > 10 {
         return None;
     }
-    // Kept: std's `parse` made check_lines a quarter slower on 16 MiB; with `try_fold` it stayed open what None means.
+    // A loop, since std's `parse` made `check_lines` a quarter slower, and of `try_fold` nothing was proved about `None`.
     let mut number: u64 = 0;
     for b in bytes {
         if !b.is_ascii_digit() {

@@ -1,6 +1,6 @@
 use Rattle.std.proofs.Common.{arith}
 use Rattle.std.proofs.lemmas.List.{take_all}
-use Rattle.text.proofs.Numbers.{number_read}
+use Rattle.text.proofs.PlainNumbers.{number_read}
 use Rattle.text.proofs.number.plain_number.Goals as goal
 
 pub returns : goal.returns

@@ -1,6 +1,6 @@
 use Rattle.std.proofs.Common.{Ok, Err, Result, ◌∙◌, arith, rules}
 use Rattle.std.specs.Result.{IsOk, OnOk}
-use Rattle.text.proofs.Cuts.{kept_front}
+use Rattle.text.proofs.Kept.{room_kept}
 use Rattle.text.proofs.text.Text.bytes.Goals as goal
 
 -- what is known of a call that succeeds
@@ -11,4 +11,4 @@ succeeded (Err e) is known = cc
 pub returns : goal.returns
 returns c =
     let fits = c.try_extend_from_slice-fits.ensures in
-    succeeded _ (fits.variant.1 (search (rules, arith))) fits.ok ∙ kept_front _ _ _ _ c.remaining_capacity.ensures c.min-kept.ensures
+    succeeded _ (fits.variant.1 (search (rules, arith))) fits.ok ∙ room_kept _ _ _ _ c.remaining_capacity.ensures c.min-fitting.ensures

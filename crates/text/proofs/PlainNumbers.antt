@@ -11,51 +11,51 @@ use Rattle.std.proofs.lemmas.List.{length-take}
 use Rattle.std.proofs.lemmas.Str.Parse.{IsNumeralModel, numerals_by_value, tells_digits, digit_at, digits_value_short}
 
 -- the library's words for digits and their value
-pub own : IsNumeralModel (AllDigits 10) (digits_value 10)
-own = numerals_by_value (AllDigits 10) tells_digits
+pub numerals : IsNumeralModel (AllDigits 10) (digits_value 10)
+numerals = numerals_by_value (AllDigits 10) tells_digits
 
 -- no number of at most 32 bits is written so
-abbrev pub NoNumber : List ℕ → Type 0
-NoNumber ds = (n : ℕ) → n < 2 ^ 32 → ds ≡ decimal n → ⊥
+abbrev pub WritesNone : List ℕ → Type 0
+WritesNone ds = (n : ℕ) → n < 2 ^ 32 → ds ≡ decimal n → ⊥
 
 -- what is read of some bytes: their number, or that they are none
-abbrev pub Reads : List ℕ → Option ℕ → Type 0
-Reads ds r = MatchOption r (NoNumber ds) (λ n. (n < 2 ^ 32) × (ds ≡ decimal n))
+abbrev pub IsReadAs : List ℕ → Option ℕ → Type 0
+IsReadAs ds r = MatchOption r (WritesNone ds) (λ n. (n < 2 ^ 32) × (ds ≡ decimal n))
 
 pub digit_from : (b : ℕ) → is_ascii_digit b ≡ true → (48 ≤ b) × (b ≤ 57) × (digitValue b ≡ b - 48)
 digit_from b h = grind (arith, nat_tests)
 
 -- what the first digits of a short number say is small enough to go on with
 pub value_small : (ds : List ℕ) (i : ℕ) → AllDigits 10 (take i ds) → i ≤ 9 → digits_value 10 (take i ds) < 10 ^ 9
-value_small ds i h few = digits_value_short own (take i ds) 9 h (omega (arith, length-take i ds))
+value_small ds i h few = digits_value_short numerals (take i ds) 9 h (omega (arith, length-take i ds))
 
 -- and one digit more
 pub digits_on : (ds : List ℕ) (i : ℕ) → i < length ds → AllDigits 10 (take i ds) → is_ascii_digit (get_or ds i 0) ≡ true → AllDigits 10 (take (i + 1) ds)
 digits_on ds i l h digit = let is = digit_from (get_or ds i 0) digit in digits_more 10 ds i l h (omega (arith, is))
 
 -- no number is written with more than ten digits, with a zero before others, or with a byte that is no digit
-pub long_writes : (ds : List ℕ) → 10 < length ds → NoNumber ds
+pub long_writes : (ds : List ℕ) → 10 < length ds → WritesNone ds
 long_writes ds long n small e = omega (arith, ap length e, length-decimal-le 10 n (omega arith) (omega arith) (omega arith))
 
-pub zero_writes : (ds : List ℕ) → 1 < length ds → get_or ds 0 0 ≡ 48 → NoNumber ds
+pub zero_writes : (ds : List ℕ) → 1 < length ds → get_or ds 0 0 ≡ 48 → WritesNone ds
 zero_writes ds long first zero small e = omega (arith, ap length (e ∙ decimal_digit 0 (omega arith)))
 zero_writes ds long first (suc n) small e =
     omega (arith, first_decimal (suc n) (omega arith) (omega arith), ap (λ xs. get_or xs 0 0) e)
 
-pub other_writes : (ds : List ℕ) (i : ℕ) → i < length ds → is_ascii_digit (get_or ds i 0) ≡ false → NoNumber ds
+pub other_writes : (ds : List ℕ) (i : ℕ) → i < length ds → is_ascii_digit (get_or ds i 0) ≡ false → WritesNone ds
 other_writes ds i l other n small e =
     let same = ap (λ xs. get_or xs i 0) e in
     let size = ap length e in
-    let digit = digit_at (decimal n) i (digits_decimal own n (omega arith)) (omega arith) in
+    let digit = digit_at (decimal n) i (digits_decimal numerals n (omega arith)) (omega arith) in
     grind (arith, nat_tests)
 
 -- digits, rightly written, are a number if their value fits
 pub number_read : {E : Type 0} (ds : List ℕ) (v : ℕ) (r : Result ℕ E) → AllDigits 10 ds → 0 < length ds → (get_or ds 0 0 ≡ 48 → length ds ≡ 1) → v ≡ digits_value 10 ds →
-    OkIff r (v < 2 ^ 32) v → Reads ds (result_ok r)
+    OkIff r (v < 2 ^ 32) v → IsReadAs ds (result_ok r)
 number_read ds v (Ok x) h some lead e fits =
-    (omega (arith, fits), rw (fits.1, e) (sym (decimal-digits_value own ds h some lead (omega (arith, fits)))))
+    (omega (arith, fits), rw (fits.1, e) (sym (decimal-digits_value numerals ds h some lead (omega (arith, fits)))))
 number_read ds v (Err x) h some lead e fits =
-    λ n small is. fits (omega (arith, ap (digits_value 10) is, digits_value-decimal own n (omega arith)))
+    λ n small is. fits (omega (arith, ap (digits_value 10) is, digits_value-decimal numerals n (omega arith)))
 
 -- what is wanted where a text is read byte by byte
 pub ruleset plain = (digit_from, value_small, digits_on, digits_value_more, decimal_nonempty, long_writes, zero_writes, other_writes)
