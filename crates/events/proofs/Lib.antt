@@ -1,5 +1,5 @@
-pub mod Figures
-pub mod Words
-pub mod Verdicts
-pub mod Window
-pub mod Cutting
+pub mod DigitRuns
+pub mod ReaderFaults
+pub mod OneVerdict
+pub mod FirstEighty
+pub mod OneCut

@@ -1,7 +1,7 @@
-pub mod Kinds
+pub mod EventKinds
 pub mod Grammar
-pub mod Written
+pub mod Events
 pub mod Faults
 pub mod Reading
 pub mod Input
-pub mod Told
+pub mod LineFaults

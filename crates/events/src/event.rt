@@ -1,11 +1,11 @@
 //! Events, as lines say them.
 ghost use Rattle.std.specs.Prelude.{◌≡◌, ℕ, ◌^◌, ◌<◌, ◌≤◌, List, ◌∷◌, ◌++◌, length, take, Ok, Result};
 ghost use Rattle.rules.specs.declared.refusal.Refusal.{Refusal};
-ghost use Rattle.events.specs.Faults.{Verdict};
-ghost use Rattle.events.specs.Grammar.{count, spaced};
-ghost use Rattle.events.specs.Written.{Event, Sized, kind, numbers, written};
+ghost use Rattle.events.specs.Faults.{RoundTrip, Verdict};
+ghost use Rattle.events.specs.Grammar.{number_count, spaced};
+ghost use Rattle.events.specs.Events.{Event, IsSized, event_kind, event_line, event_numbers};
 ghost use Rattle.std.specs.List.{flat_map, AllByRecursion};
-ghost use Rattle.text.specs.Texts.{Placed, cut, spelt};
+ghost use Rattle.text.specs.Texts.{WritesToFront, kept, spelt};
 
 use crate::reader::Reader;
 use crate::word::EventKind;
@@ -13,7 +13,8 @@ use rules::{Admission, Estimate, Refusal};
 use text::{Line, Text};
 
 /// What an event line says. The numbers are as they came: whether the broker takes them is for the broker to say.
-// Kept: a `Call` can also deliver a slip, and an `EventKind` is what the letter says before its numbers are read.
+///
+/// It is not a `Call`, which can also deliver a slip, nor an `EventKind`, which is known before the numbers are read.
 #[derive(Clone, Copy, PartialEq, Eq, Debug, Drop)]
 pub enum Event {
     /// `S unit frames`
@@ -35,11 +36,10 @@ pub enum Event {
 /// The event of a kind with these numbers, of which it takes as many as its line has.
 fn event_of(k: EventKind, ns: [u32; 5]) -> Event
     requires { length ns ≡ 5 }
-    ensures kind { kind result ≡ k }
-    ensures numbers { numbers result ≡ take (count k) ns }
+    ensures kind { event_kind result ≡ k }
+    ensures numbers { event_numbers result ≡ take (number_count k) ns }
 {
-    // Kept: the letter chooses how many numbers are read, by a form that the project gives, so they are read before the
-    // event gives them names.
+    // The letter chooses how many numbers are read, so they are read before the event gives them names.
     let [a, b, c, d, e] = ns;
     match k {
         EventKind::Start => Event::Start { unit: a, frames: b },
@@ -62,7 +62,7 @@ fn event_of(k: EventKind, ns: [u32; 5]) -> Event
 }
 
 /// The verdict on a line, by its letter, its numbers and its end.
-// Kept: in one function with `read` each of four returns wants its own proof of `only` and `decided`: eight for two.
+// It is apart from `read`, whose other two promises would be proved anew at each of these four returns.
 fn judge(line: &[u8]) -> Result<Event, Refusal>
     ensures { Verdict line.now result }
 {
@@ -75,7 +75,7 @@ fn judge(line: &[u8]) -> Result<Event, Refusal>
 
 /// The event that a line says, or the first fault from the left. Of the line the first 80 bytes decide.
 ///
-/// `read(b"Q 3")` is the ask of client 3; `read(b"Q")` is malformed for want of a space at column 2.
+/// `read(b"Q 3")` is the ask of client 3; `read(b"Q")` is malformed, as a space is missing at column 2.
 pub fn read(line: &[u8]) -> Result<Event, Refusal>
     ensures verdict { Verdict line.now result }
     ensures only { (v : Result Event Refusal) → Verdict line.now v → v ≡ result }
@@ -84,10 +84,10 @@ pub fn read(line: &[u8]) -> Result<Event, Refusal>
     judge(line)
 }
 
-/// Puts a letter and some numbers, each after one space, behind a text.
-#[tactic(auto, using(text::proofs::Cuts::joined))]
+/// Appends a letter and some numbers, each after one space, to a text.
+#[tactic(auto, using(text::proofs::Kept::joined))]
 fn spell(text: &mut Text, letter: u8, numbers: &[u32])
-    ensures text { spelt text.new ≡ cut (spelt text.old ++ letter ∷ flat_map spaced numbers.now) }
+    ensures text { spelt text.new ≡ kept (spelt text.old ++ letter ∷ flat_map spaced numbers.now) }
     ensures short { length numbers.now ≤ 11 → length (flat_map spaced numbers.now) ≤ 127 }
     ensures sized { AllByRecursion (λ n. n < 2 ^ 32) numbers.now }
 {
@@ -99,12 +99,12 @@ fn spell(text: &mut Text, letter: u8, numbers: &[u32])
 }
 
 impl Line for Event {
-    ghost spelling = { written };
+    ghost spelling = { event_line };
 
     fn add_to(&self, text: &mut Text)
-        ensures short { length (written self.now) ≤ 128 }
-        ensures text { spelt text.new ≡ cut (spelt text.old ++ written self.now) }
-        ensures sized { Sized self.now }
+        ensures short { length (event_line self.now) ≤ 128 }
+        ensures text { spelt text.new ≡ kept (spelt text.old ++ event_line self.now) }
+        ensures sized { IsSized self.now }
     {
         match *self {
             Event::Start { unit, frames } => spell(text, b'S', &[unit, frames]),
@@ -126,13 +126,15 @@ impl Line for Event {
 }
 
 impl Event {
-    /// Writes the event's line to the front of a lent buffer and answers its length. A buffer too short for it is
-    /// refused, and stays as it was. What is written reads as the same event again.
-    // Kept: it hides `Line::write` for its clause `again`, which the lines of faults and answers could not promise.
-    #[tactic(auto, using(text::proofs::Cuts::joined))]
+    /// Writes the event's line to the front of a borrowed buffer and returns its length. A buffer too short for it is
+    /// refused, and stays as it was.
+    ///
+    /// The line reads as the same event again, and each line that reads as this event is the line that is written of it.
+    // It stands before `Line::write` for this promise, which the lines of faults and tallies could not keep.
+    #[tactic(auto, using(text::proofs::Kept::joined))]
     pub fn write(&self, out: &mut [u8]) -> Result<usize, Refusal>
-        ensures placed { Placed (written self.now) out.old result out.new }
-        ensures again { (v : Result Event Refusal) → Verdict (written self.now) v → v ≡ Ok self.now }
+        ensures writes { WritesToFront (event_line self.now) out.old result out.new }
+        ensures round_trip { RoundTrip self.now }
     {
         let mut text = Text::new();
         self.add_to(&mut text);

@@ -10,7 +10,7 @@ const LIMIT: usize = 16_777_216;
 
 /// The first 16,777,216 bytes of an input, or all of them where it has no more.
 ///
-/// Room for them is made at once, with a place more, which the last read finds empty. A pipe, which hands out less at a
+/// Room for them is made at once, with a place more, which the last read leaves empty. A pipe, which gives less at a
 /// time than is asked for, is read on to the limit or to its end.
 pub fn read_input<R: Read + Drop>(alloc: Global, from: R) -> io::Result<Vec<u8>>
     ensures length { IfOk result (λ input. vec_len input ≤ 16_777_216) }

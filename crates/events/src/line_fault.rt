@@ -1,7 +1,7 @@
 //! A line that was refused, with its number.
 ghost use Rattle.std.specs.Prelude.{◌≡◌, ◌≤◌, ◌++◌, length};
-ghost use Rattle.events.specs.Told.{told};
-ghost use Rattle.text.specs.Texts.{cut, spelt};
+ghost use Rattle.events.specs.LineFaults.{at_line as told_at, fault_line};
+ghost use Rattle.text.specs.Texts.{kept, spelt};
 
 use rules::Refusal;
 use text::{Line, Text};
@@ -13,11 +13,28 @@ pub struct LineFault {
     pub refusal: Refusal,
 }
 
+/// A line's number and its refusal.
+impl From<(u64, Refusal)> for LineFault {
+    ghost from_gives = { λ at fault. fault ≡ record { line = at.0; refusal = at.1 } };
+
+    fn from((line, refusal): (u64, Refusal)) -> LineFault {
+        LineFault { line, refusal }
+    }
+}
+
+/// What came of a line. A refusal, the reader's or the broker's, becomes the fault of the line with this number.
+pub fn at_line<T>(line: u64, outcome: Result<T, Refusal>) -> Result<T, LineFault>
+    ensures { result ≡ told_at line outcome }
+{
+    let value = outcome.map_err(|refusal| (line, refusal))?;
+    Ok(value)
+}
+
 /// `line N text K at C` for a malformed line, `line N refused R` for any other.
 impl Line for LineFault {
-    ghost spelling = { told };
+    ghost spelling = { fault_line };
 
-    #[tactic(auto, using(text::proofs::Cuts::joined))]
+    #[tactic(auto, using(text::proofs::Kept::joined))]
     fn add_to(&self, text: &mut Text) {
         text.bytes(b"line ");
         text.number(self.line);

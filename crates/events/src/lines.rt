@@ -1,7 +1,7 @@
 //! The lines of an input.
 ghost use Rattle.std.specs.Prelude.{◌≡◌, length};
 ghost use Rattle.std.specs.Option.{option_map};
-ghost use Rattle.events.specs.Input.{NextLine};
+ghost use Rattle.events.specs.Input.{GivesLine};
 ghost use Rattle.std.specs.Iterator.{at_most};
 
 use memchr::memchr;
@@ -12,8 +12,8 @@ const WIDTH: usize = 80;
 /// The lines of an input, cut by byte 10 alone, the first 80 bytes of each.
 ///
 /// Text after the last newline is a line unless it is empty.
-// Kept: `bstr`'s `lines` drop a `\r` too; its `lines_with_terminator`, and std's `split_inclusive`, which has no memchr,
-// keep the newline: `next` would still cut each.
+// `bstr`'s `lines` drop a `\r` too. Its `lines_with_terminator`, and std's `split_inclusive`, which has no memchr, keep the
+// newline, so that `next` would still cut each.
 #[derive(Drop)]
 pub struct Lines<'a> {
     rest: &'a [u8],
@@ -31,7 +31,7 @@ impl<'a> Lines<'a> {
 impl<'a> Iterator for Lines<'a> {
     type Item = &'a [u8];
 
-    ghost next_gives = { λ before r after. NextLine before.rest.now (option_map (λ x. x.now) r) after.rest.now };
+    ghost next_gives = { λ before r after. GivesLine before.rest.now (option_map (λ x. x.now) r) after.rest.now };
 
     ghost remaining = { λ s. at_most (length s.rest.now) };
 

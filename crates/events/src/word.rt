@@ -1,6 +1,6 @@
 //! The words of an event line, each a part of the line itself.
-ghost use Rattle.std.specs.Prelude.{◌≡◌};
-ghost use Rattle.events.specs.Kinds.{count as numbers_of};
+ghost use Rattle.std.specs.Prelude.{◌≡◌, ◌≢◌, MatchOption};
+ghost use Rattle.events.specs.EventKinds.{EventKind, letter, number_count};
 
 use rules::FaultKind;
 
@@ -13,13 +13,12 @@ pub enum Due {
 }
 
 impl Due {
-    ghost use Rattle.events.specs.Reading.{kind_of};
+    ghost use Rattle.events.specs.Reading.{missing_kind};
 
-    /// The kind of fault where no such word stands.
+    /// The kind of fault where no such word stands. (A conversion by `From` would not say that the word is missing.)
     pub fn missing(&self) -> FaultKind
-        ensures { result ≡ kind_of self.now }
+        ensures { result ≡ missing_kind self.now }
     {
-        // Kept: `missing` says what `due.into()` would not, that the fault is the want of the word that is due.
         match self {
             Due::Letter => FaultKind::Letter,
             Due::Separator => FaultKind::Space,
@@ -41,16 +40,33 @@ pub enum EventKind {
 }
 
 /// What an event's letter says: the kind of event, and how many numbers follow.
-// Kept: the project gives this form, a char match whose cases choose the count of numbers beside the kind.
 #[derive(Clone, Copy, PartialEq, Eq, Debug)]
 pub struct Form {
     pub kind: EventKind,
     pub count: usize,
-    pub ghost counted: { count ≡ numbers_of kind },
+    pub ghost counted: { count ≡ number_count kind },
+}
+
+impl Form {
+    /// What a letter says, if it is one of the seven.
+    pub(crate) fn of(c: char) -> Option<Form>
+        ensures { MatchOption result ((k : EventKind) → letter k ≢ c) (λ f. letter f.kind ≡ c) }
+    {
+        let (kind, count) = match c {
+            'S' => (EventKind::Start, 2),
+            'A' => (EventKind::Admit, 5),
+            'Q' => (EventKind::Ask, 1),
+            'H' => (EventKind::HandBack, 1),
+            'L' => (EventKind::Leave, 1),
+            'E' => (EventKind::Estimate, 3),
+            'T' => (EventKind::Clock, 1),
+            _ => return None,
+        };
+        Some(Form { kind, count })
+    }
 }
 
 /// A word of an event line: its part of the line, its column, counted from 1, and what it says.
-// Kept: the project gives this form, an enum of letters, numbers and separators, each with its part and its column.
 #[derive(Clone, Copy)]
 pub enum Word<'a> {
     /// One of the seven letters.
@@ -73,11 +89,11 @@ pub enum Word<'a> {
 }
 
 impl<'a> Word<'a> {
-    ghost use Rattle.events.specs.Reading.{part};
+    ghost use Rattle.events.specs.Reading.{text_of};
 
     /// The word's part of the line.
     pub fn text(&self) -> &'a [u8]
-        ensures { result.now ≡ part self.now }
+        ensures { result.now ≡ text_of self.now }
     {
         match self {
             Word::Letter { text, .. } | Word::Number { text, .. } | Word::Separator { text, .. } =>

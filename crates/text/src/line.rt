@@ -10,8 +10,7 @@ use std::io::Write;
 
 /// A value with a line of its own, of at most 128 bytes.
 ///
-/// It stands in place of `Display`, since `write!` never promises `Ok`, and a buffer of bytes could then not promise what
-/// it holds.
+/// `Display` would not do: `write!` never promises `Ok`, so `write` could not promise what the buffer then holds.
 pub trait Line {
     /// The bytes of the line, without a newline.
     ghost spelling: { Self → List ℕ };

@@ -1,11 +1,11 @@
 //! Numbers, as texts write them.
-ghost use Rattle.std.specs.Prelude.{◌≡◌, ℕ, ◌^◌, ◌<◌, decimal, MatchOption, ◌≢◌};
+ghost use Rattle.text.specs.PlainNumbers.{ReadsPlainly};
 
 /// The number that some bytes write in plain decimal: digits alone, with no zero in front of others, and of at most
-/// 32 bits.
+/// 32 bits. `plain_number(b"30")` is 30; there is none for `b""`, `b"03"`, `b"+3"` and `b"4294967296"`.
 #[tactic(auto, using(crate::proofs::PlainNumbers::plain))]
 pub fn plain_number(bytes: &[u8]) -> Option<u32>
-    ensures { MatchOption result ((n : ℕ) → n < 2 ^ 32 → bytes.now ≢ decimal n) (λ n. (n < 2 ^ 32) × (bytes.now ≡ decimal n)) }
+    ensures { ReadsPlainly bytes.now result }
 {
     if matches!(bytes, [] | [b'0', _, ..]) {
         return None;
@@ -13,7 +13,7 @@ pub fn plain_number(bytes: &[u8]) -> Option<u32>
     if bytes.len() > 10 {
         return None;
     }
-    // A loop, since std's `parse` made `check_lines` a quarter slower, and of `try_fold` nothing was proved about `None`.
+    // A loop: std's `parse` made `check_lines` a quarter slower, and nothing was proved of the `None` of a `try_fold`.
     let mut number: u64 = 0;
     for b in bytes {
         if !b.is_ascii_digit() {

@@ -1,5 +1,5 @@
-use Rattle.events.proofs.Verdicts.{one_verdict}
-use Rattle.events.proofs.Window.{first_80_decide}
+use Rattle.events.proofs.OneVerdict.{one_verdict}
+use Rattle.events.proofs.FirstEighty.{first_80_decide}
 use Rattle.events.proofs.event.read.Goals as goal
 
 pub returns-clause-only : goal.returns-clause-only

@@ -1,6 +1,10 @@
-use Rattle.std.proofs.Common.{refl}
-use Rattle.events.proofs.Verdicts.{one_verdict}
+use Rattle.std.proofs.Common.{sym, refl}
+use Rattle.events.proofs.OneVerdict.{one_verdict}
 use Rattle.events.proofs.event.Event.write.Goals as goal
 
-pub returns-clause-again : goal.returns-clause-again
-returns-clause-again c = λ v h. one_verdict _ v _ h (c.add_to.ensures.sized, refl)
+pub returns-clause-round_trip : goal.returns-clause-round_trip
+returns-clause-round_trip c =
+    record {
+      event = λ v h. one_verdict _ v _ h (c.add_to.ensures.sized, refl);
+      line = λ line h. sym h.1;
+    }

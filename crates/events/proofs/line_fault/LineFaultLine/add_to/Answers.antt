@@ -3,7 +3,7 @@ use Rattle.rules.specs.Numbers.{values}
 use Rattle.rules.specs.declared.refusal.Fault.{Fault}
 use Rattle.rules.specs.declared.refusal.Refusal.{Refusal}
 use Rattle.rules.specs.declared.refusal.Refusal.TheVariants.{Malformed}
-use Rattle.text.proofs.Cuts.{cut_cut}
+use Rattle.text.proofs.Kept.{kept_kept}
 use Rattle.events.proofs.line_fault.LineFaultLine.add_to.Goals as goal
 
 -- only a malformed line has values
@@ -12,4 +12,4 @@ no_values (Malformed f) not = absurd (not f refl)
 no_values r not = refl
 
 pub returns-in_default-clause-text : goal.returns-in_default-clause-text
-returns-in_default-clause-text c = rw (no_values _ c.in_default.not-Malformed) (grind (arith, cut_cut, append_assoc))
+returns-in_default-clause-text c = rw (no_values _ c.in_default.not-Malformed) (grind (arith, kept_kept, append_assoc))

@@ -1,7 +1,7 @@
 use Rattle.std.proofs.Common.{◌≡◌, length, get_or, take, min, arith, rules, tests, ap, ◌∙◌, subst, false-eqb}
 use Rattle.std.proofs.lemmas.List.{take_all}
 use Rattle.events.specs.Input.{NoNewline}
-use Rattle.events.proofs.Cutting.{no_newline, ended_line, last_line, line_head}
+use Rattle.events.proofs.OneCut.{no_newline, ended_line, last_line, line_head}
 use Rattle.events.proofs.lines.LinesIterator.next.Goals as goal
 use Rattle.events.proofs.lines.LinesIterator.next.Goals.{in-Some, in-None}
 

@@ -1,7 +1,7 @@
 use Rattle.std.proofs.Common.{ap}
 use Rattle.std.proofs.lemmas.Result.{err_from_is_err_and}
 use Rattle.events.specs.Reading.{no_space}
-use Rattle.events.proofs.Words.{number_missed}
+use Rattle.events.proofs.ReaderFaults.{number_missed}
 use Rattle.events.proofs.reader.Reader.next_number.Goals as goal
 
 pub returns-in_err-next_word-clause-cases : goal.returns-in_err-next_word-clause-cases

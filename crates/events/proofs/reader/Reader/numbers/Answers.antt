@@ -1,8 +1,8 @@
 use Rattle.std.proofs.Common.{◌≡◌, ℕ, List, [], ◌∷◌, length, take, ap, ◌∙◌, arith}
 use Rattle.std.proofs.lemmas.List.{length-take-le}
 use Rattle.std.proofs.lemmas.Result.{err_from_is_err_and}
-use Rattle.events.specs.Grammar.{EventKind, count}
-use Rattle.events.proofs.Words.{count_few, number_fault}
+use Rattle.events.specs.Grammar.{EventKind, number_count}
+use Rattle.events.proofs.ReaderFaults.{count_few, number_fault}
 use Rattle.events.proofs.reader.Reader.numbers.Goals as goal
 
 -- five places, before numbers are read into them
@@ -10,7 +10,7 @@ abbrev places : List ℕ
 places = 0 ∷ 0 ∷ 0 ∷ 0 ∷ 0 ∷ []
 
 -- the first places are as many as the kind has numbers
-as_many : (k : EventKind) (ns : List ℕ) (n : ℕ) → n ≡ count k → length ns ≡ length (take n places) → length ns ≡ n
+as_many : (k : EventKind) (ns : List ℕ) (n : ℕ) → n ≡ number_count k → length ns ≡ length (take n places) → length ns ≡ n
 as_many k ns n e long = long ∙ length-take-le n places (omega (arith, count_few k))
 
 pub returns-in_err-number-clause-cases : goal.returns-in_err-number-clause-cases

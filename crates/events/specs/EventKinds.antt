@@ -1,7 +1,7 @@
 -- What stands on the line of each kind of event.
 --
--- letter   the letter of each kind of event
--- count    how many numbers follow the letter
+-- letter         the letter of each kind of event
+-- number_count   how many numbers follow the letter
 use Rattle.std.specs.Prelude.{ℕ}
 pub use Rattle.events.specs.declared.word.EventKind.{EventKind}
 pub use Rattle.events.specs.declared.word.EventKind.TheVariants.{Start, Admit, Ask, HandBack, Leave, Estimate, Clock}
@@ -16,11 +16,11 @@ letter Leave = 76
 letter Estimate = 69
 letter Clock = 84
 
-abbrev pub count : EventKind → ℕ
-count Start = 2
-count Admit = 5
-count Ask = 1
-count HandBack = 1
-count Leave = 1
-count Estimate = 3
-count Clock = 1
+abbrev pub number_count : EventKind → ℕ
+number_count Start = 2
+number_count Admit = 5
+number_count Ask = 1
+number_count HandBack = 1
+number_count Leave = 1
+number_count Estimate = 3
+number_count Clock = 1

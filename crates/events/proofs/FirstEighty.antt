@@ -6,11 +6,11 @@ use Rattle.std.proofs.lemmas.List.{length-append, length-take, nil_from_length, 
 use Rattle.rules.specs.declared.refusal.Fault.{Fault}
 use Rattle.rules.specs.declared.refusal.Refusal.{Refusal}
 use Rattle.events.specs.declared.word.Due.TheVariants as due
-use Rattle.events.specs.Grammar.{EventKind, letter, count, NoDigit, spaced, spelled, Missing}
-use Rattle.events.specs.Written.{Event, kind, numbers}
-use Rattle.events.specs.Faults.{Begins, Ended, FirstFault, no_letter, no_space, no_number, no_end, Verdict}
-use Rattle.events.proofs.Verdicts.{numbers_count}
-use Rattle.events.proofs.Words.{count_few}
+use Rattle.events.specs.Grammar.{EventKind, letter, number_count, NoDigit, spaced, line_of, IsMissing}
+use Rattle.events.specs.Events.{Event, event_kind, event_numbers}
+use Rattle.events.specs.Faults.{Begins, LastStops, FirstFault, no_letter, no_space, no_number, no_end, Verdict}
+use Rattle.events.proofs.OneVerdict.{numbers_counted}
+use Rattle.events.proofs.ReaderFaults.{count_few}
 
 -- two texts whose first w bytes are the same
 abbrev Alike : ℕ → List ℕ → List ℕ → Type 0
@@ -46,34 +46,34 @@ no_digit_alike (suc w) (x ∷ xs) (y ∷ ys) h a n = let same : x ≡ y = cc in 
 length_spaced : (n : ℕ) → n < 2 ^ 32 → length (spaced n) ≤ 11
 length_spaced n small = omega (arith, length-decimal-le 10 n (omega arith) (omega arith) (omega arith))
 
-pub length_numbers : (ns : List ℕ) → AllByRecursion (λ n. n < 2 ^ 32) ns → length (flat_map spaced ns) ≤ 11 * length ns
-length_numbers [] s = omega arith
-length_numbers (n ∷ ns) s =
-    omega (arith, length-append (spaced n) (flat_map spaced ns), length_spaced n s.0, length_numbers ns s.1)
+pub length_spaced_numbers : (ns : List ℕ) → AllByRecursion (λ n. n < 2 ^ 32) ns → length (flat_map spaced ns) ≤ 11 * length ns
+length_spaced_numbers [] s = omega arith
+length_spaced_numbers (n ∷ ns) s =
+    omega (arith, length-append (spaced n) (flat_map spaced ns), length_spaced n s.0, length_spaced_numbers ns s.1)
 
 -- a letter and its numbers, as both lines have them: room is left for a space and a number
 record BothBegin (k : EventKind) (ns rest m : List ℕ) : Type 0 where
   more : List ℕ
   begins : Begins m k ns more
-  alike : Alike (80 - length (spelled k ns)) rest more
-  wide : 12 < 80 - length (spelled k ns)
+  alike : Alike (80 - length (line_of k ns)) rest more
+  wide : 12 < 80 - length (line_of k ns)
 
-ended_alike : (w : ℕ) (ns xs ys : List ℕ) → 0 < w → Alike w xs ys → Ended ns xs → Ended ns ys
-ended_alike w [] xs ys h a e = tt
-ended_alike w (n ∷ ns) xs ys h a e = no_digit_alike w xs ys h a e
+stops_alike : (w : ℕ) (ns xs ys : List ℕ) → 0 < w → Alike w xs ys → LastStops ns xs → LastStops ns ys
+stops_alike w [] xs ys h a e = tt
+stops_alike w (n ∷ ns) xs ys h a e = no_digit_alike w xs ys h a e
 
-both_begin : (l m : List ℕ) (k : EventKind) (ns rest : List ℕ) → Alike 80 l m → Begins l k ns rest → length ns ≤ count k → BothBegin k ns rest m
+both_begin : (l m : List ℕ) (k : EventKind) (ns rest : List ℕ) → Alike 80 l m → Begins l k ns rest → length ns ≤ number_count k → BothBegin k ns rest m
 both_begin l m k ns rest a b few =
-    let wide : 12 < 80 - length (spelled k ns) = omega (arith, length_numbers ns b.sized, count_few k) in
-    let f = follow 80 (spelled k ns) rest m (omega arith) (rw b.whole at a) in
+    let wide : 12 < 80 - length (line_of k ns) = omega (arith, length_spaced_numbers ns b.sized, count_few k) in
+    let f = follow 80 (line_of k ns) rest m (omega arith) (rw b.whole at a) in
     record {
       more = f.more;
-      begins = record { whole = f.whole; sized = b.sized; ended = ended_alike _ ns rest f.more (omega arith) f.alike b.ended };
+      begins = record { whole = f.whole; sized = b.sized; stops = stops_alike _ ns rest f.more (omega arith) f.alike b.stops };
       alike = f.alike;
       wide = wide;
     }
 
-number_alike : (w : ℕ) (xs ys : List ℕ) → 11 < w → Alike w xs ys → Missing due.Number xs → Missing due.Number ys
+number_alike : (w : ℕ) (xs ys : List ℕ) → 11 < w → Alike w xs ys → IsMissing due.Number xs → IsMissing due.Number ys
 number_alike w xs ys h a missing n more small e stops =
     let short = length_spaced n small in
     let f = follows_too w (decimal n) more xs ys (omega arith) a e in
@@ -87,7 +87,7 @@ fault_alike l m f a (no_space {k} {ns} {rest} begins few missing) =
     no_space b.begins few (λ more e. let f = follows_too _ (32 ∷ []) more rest b.more (omega (arith, b.wide)) b.alike e in missing f.more f.whole)
 fault_alike l m f a (no_number {k} {ns} {rest} begins few missing) =
     let b = both_begin l m k ns (32 ∷ rest) a begins (omega arith) in
-    let after = follow (80 - length (spelled k ns)) (32 ∷ []) rest b.more (omega (arith, b.wide)) b.alike in
+    let after = follow (80 - length (line_of k ns)) (32 ∷ []) rest b.more (omega (arith, b.wide)) b.alike in
     no_number (rw after.whole at b.begins) few (number_alike _ rest after.more (omega (arith, b.wide)) after.alike missing)
 fault_alike l m f a (no_end {k} {ns} {rest} begins all more) =
     let b = both_begin l m k ns rest a begins (omega arith) in
@@ -95,7 +95,7 @@ fault_alike l m f a (no_end {k} {ns} {rest} begins all more) =
 
 pub first_80_decide : (l m : List ℕ) (r : Result Event Refusal) → take 80 m ≡ take 80 l → Verdict l r → Verdict m r
 first_80_decide l m (Ok e) a v =
-    let fits : length l ≤ 56 = omega (arith, ap length v.1, length_numbers (numbers e) v.0, numbers_count e, count_few (kind e)) in
+    let fits : length l ≤ 56 = omega (arith, ap length v.1, length_spaced_numbers (event_numbers e) v.0, numbers_counted e, count_few (event_kind e)) in
     let cut : take 80 m ≡ l = a ∙ take_all 80 l (omega arith) in
     let whole : length m ≤ 80 = omega (arith, length-take 80 m, ap length cut) in
     (v.0, sym (take_all 80 m whole) ∙ cut ∙ v.1)

@@ -1,8 +1,8 @@
 use Rattle.std.proofs.Common.{◌≡◌, true, false, rules, tests}
 use Rattle.std.specs.Char.{is_ascii_digit}
 use Rattle.std.proofs.lemmas.Iterator.{IsFirst-from_position, YieldsList-from_slice}
-use Rattle.events.proofs.Figures.{run_to}
-use Rattle.events.proofs.reader.words.digits.Goals as goal
+use Rattle.events.proofs.DigitRuns.{run_to}
+use Rattle.events.proofs.reader.digits.Goals as goal
 
 pub returns : goal.returns
 returns c =
