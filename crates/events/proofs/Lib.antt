@@ -3,3 +3,4 @@ pub mod ReaderFaults
 pub mod OneVerdict
 pub mod FirstEighty
 pub mod OneCut
+pub mod AtLine

@@ -6,7 +6,7 @@
 use Rattle.std.specs.Prelude.{ℕ, List, [], ◌∷◌, ◌++◌, Ok, Err, Result, codes, decimal}
 use Rattle.rules.specs.declared.refusal.Refusal.{Refusal}
 use Rattle.rules.specs.Numbers.{number, values}
-use Rattle.events.specs.declared.line_fault.LineFault.{LineFault}
+pub use Rattle.events.specs.declared.line_fault.LineFault.{LineFault}
 
 -- A malformed line has the kind and the column of its fault for values; any other refusal has none.
 abbrev pub reason : List ℕ → ℕ → List ℕ

@@ -12,7 +12,7 @@
 -- ReadsNumber                  they are found, or missed with this fault
 -- IsBehind                     the cursor stands right behind a letter and some numbers, rightly written
 -- ReadsForm                    the cursor moves past the line's letter, or the line has a first fault
--- ReadsNumbers                 it moves past all numbers of the line, the first of five places, or the line has a first fault
+-- ReadsNumbers                 it moves past all its numbers, the first of five places, or the line has a first fault
 -- ReadsEnd                     the line ends at the cursor, or goes on there, which is the fault
 use Rattle.std.specs.Prelude.{◌≡◌, ℕ, ◌+◌, ◌^◌, ◌<◌, ◌≤◌, List, [], ◌∷◌, ◌++◌, length, take, drop, Some, None, Ok, Err, Option, Result, ◌≢◌}
 use Rattle.std.specs.Str.Parse.{AllDigits}
@@ -79,7 +79,8 @@ pub record FindsNumber (line : List ℕ) (at n next : ℕ) : Type 0 where
 
 pub data MissesNumber (line : List ℕ) (at : ℕ) : Fault → Type 0 where
   no_space : IsMissing due.Separator (drop at line) → MissesNumber line at (fault_at fault.Space (at + 1))
-  no_number : {rest : List ℕ} → drop at line ≡ 32 ∷ rest → IsMissing due.Number rest → MissesNumber line at (fault_at fault.Number (at + 2))
+  no_number : {rest : List ℕ} → drop at line ≡ 32 ∷ rest → IsMissing due.Number rest →
+      MissesNumber line at (fault_at fault.Number (at + 2))
 
 abbrev pub ReadsNumber : List ℕ → ℕ → Result ℕ Fault → ℕ → Type 0
 ReadsNumber line at (Ok n) next = FindsNumber line at n next

@@ -129,7 +129,7 @@ impl Event {
     /// Writes the event's line to the front of a borrowed buffer and returns its length. A buffer too short for it is
     /// refused, and stays as it was.
     ///
-    /// The line reads as the same event again, and each line that reads as this event is the line that is written of it.
+    /// The line reads as the same event again, and each line that reads as this event is the line that it writes.
     // It stands before `Line::write` for this promise, which the lines of faults and tallies could not keep.
     #[tactic(auto, using(text::proofs::Kept::joined))]
     pub fn write(&self, out: &mut [u8]) -> Result<usize, Refusal>

@@ -12,8 +12,8 @@ const WIDTH: usize = 80;
 /// The lines of an input, cut by byte 10 alone, the first 80 bytes of each.
 ///
 /// Text after the last newline is a line unless it is empty.
-// `bstr`'s `lines` drop a `\r` too. Its `lines_with_terminator`, and std's `split_inclusive`, which has no memchr, keep the
-// newline, so that `next` would still cut each.
+// `bstr`'s `lines` drop a `\r` too. Its `lines_with_terminator`, and std's `split_inclusive`, which has no memchr, keep
+// the newline, so that `next` would still cut each.
 #[derive(Drop)]
 pub struct Lines<'a> {
     rest: &'a [u8],

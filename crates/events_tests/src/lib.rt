@@ -3,7 +3,7 @@
 
 #[cfg(test)]
 mod tests {
-    use events::{Event, LineFault, Lines, read, read_input};
+    use events::{Event, LineFault, Lines, at_line, read, read_input};
     use rules::{Admission, Estimate, Fault, FaultKind, Refusal};
     use std::test::Fail;
     use text::Line;
@@ -131,16 +131,16 @@ mod tests {
     }
 
     #[test]
-    fn refused_line_told(rt: HostRuntime) -> Result<(), Fail> {
+    fn refused_line_printed(rt: HostRuntime) -> Result<(), Fail> {
         let mut out = [0; 32];
-        let malformed = LineFault {
-            line: 10,
-            refusal: Refusal::Malformed(Fault {
-                kind: FaultKind::Number,
-                column: 3,
-            }),
+        assert_eq!(rt;
+            at_line(9, read(b"H 3")).ok(),
+            Some(Event::HandBack { client: 3 })
+        );
+        let n = match at_line(10, read(b"H 03")) {
+            Ok(_) => 0,
+            Err(malformed) => malformed.write(&mut out)?,
         };
-        let n = malformed.write(&mut out)?;
         assert!(rt; n <= 32);
         assert_eq!(rt; &out[..n], b"line 10 text 3 at 3".as_slice());
         let outbid = LineFault {
