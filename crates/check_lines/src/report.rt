@@ -1,8 +1,8 @@
 //! The faults of an input, printed one by one, and the tally of its lines.
-ghost use Rattle.check_lines.specs.Tallies.{Checked, tallied};
+ghost use Rattle.check_lines.specs.Tallies.{IsReport, tally_line};
 ghost use Rattle.std.specs.Prelude.{◌≡◌, IfOk};
 
-use events::{LineFault, Lines, read};
+use events::{Lines, at_line, read};
 use std::io;
 use std::io::Write;
 use text::{Line, Text};
@@ -16,9 +16,9 @@ pub struct Tally {
 
 /// `lines N events M`
 impl Line for Tally {
-    ghost spelling = { tallied };
+    ghost spelling = { tally_line };
 
-    #[tactic(auto, using(text::proofs::Cuts::joined))]
+    #[tactic(auto, using(text::proofs::Kept::joined))]
     fn add_to(&self, text: &mut Text) {
         text.bytes(b"lines ");
         text.number(self.lines);
@@ -27,23 +27,21 @@ impl Line for Tally {
     }
 }
 
-/// Prints the fault of each malformed line of the input under its number, in order, and then the tally, which it also answers.
+/// Prints the fault of each malformed line of the input under its number, in order, and then the tally, and returns the
+/// tally.
 pub fn report<W: Write>(input: &[u8], out: &mut W) -> io::Result<Tally>
-    ensures { IfOk result (λ tally. Checked input.now tally (W.contents out.old) (W.contents out.new)) }
+    ensures { IfOk result (λ tally. IsReport input.now tally (W.contents out.old) (W.contents out.new)) }
 {
     let mut tally = Tally {
         lines: 0,
         events: 0,
     };
     for line in Lines::new(input) {
-        // Kept: a line's number is the tally so far, which `enumerate` would count a second time.
+        // A line's number is the tally so far, which `enumerate` would count a second time.
         tally.lines += 1;
-        match read(line) {
+        match at_line(tally.lines, read(line)) {
             Ok(_) => tally.events += 1,
-            Err(refusal) => {
-                let line = tally.lines;
-                LineFault { line, refusal }.print(out)?;
-            }
+            Err(fault) => fault.print(out)?,
         }
     }
     tally.print(out)?;
