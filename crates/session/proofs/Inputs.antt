@@ -6,8 +6,8 @@ use Rattle.std.proofs.lemmas.Grind.{flat_map-append}
 use Rattle.std.specs.Io.KnownBytes.{Appends}
 use Rattle.rules.specs.Offers.{Meaning}
 use Rattle.events.specs.Input as input
-use Rattle.events.specs.Input.{Cuts, NextLine}
-use Rattle.events.proofs.Cutting.{cuts_on}
+use Rattle.events.specs.Input.{CutsOff, GivesLine}
+use Rattle.events.proofs.OneCut.{cuts_on}
 use Rattle.laws.specs.Broker as rules
 use Rattle.laws.specs.Histories as history
 use Rattle.pool.specs.View.{IsNextClient}
@@ -37,7 +37,7 @@ module _ {P : Type 0} {g : Ghosts P} where
       record { performed = record { texts = []; calls = []; cuts = input.none refl; performs = none; price = refl; history = λ h led. led }; count = refl; room = omega arith }
 
   pub one_more : {first s t : Session P g} {whole rest left text : List ℕ} {n k : ℕ} {vs : List Printed} {p : Printed} →
-      Through first whole n rest vs s → NextLine rest (Some text) left → length left < length rest → k ≡ n + 1 → NumberedLinePerformed k s text p t → Through first whole k left (vs ++ p ∷ []) t
+      Through first whole n rest vs s → GivesLine rest (Some text) left → length left < length rest → k ≡ n + 1 → NumberedLinePerformed k s text p t → Through first whole k left (vs ++ p ∷ []) t
   one_more {s = s} {t = t} {whole = whole} {rest = rest} {left = left} {k = k} {p = p} through (text, head, cuts) less raised (r, told, made) =
       let so_far = through.performed in
       let (calls, performs) = made.performs text (sym (take-take 80 80 text (omega arith)) ∙ ap (take 80) (sym head)) in
@@ -57,7 +57,7 @@ module _ {P : Type 0} {g : Ghosts P} where
 
   -- the end of the input
   pub all_through : {first s : Session P g} {whole rest left : List ℕ} {n : ℕ} {vs : List Printed} {held holds : Option (List ℕ)} →
-      Through first whole n rest vs s → Appends held holds (lines vs) → NextLine rest None left → LinesPrinted first whole s held holds
+      Through first whole n rest vs s → Appends held holds (lines vs) → GivesLine rest None left → LinesPrinted first whole s held holds
   all_through {vs = vs} through written nothing = record { all = vs; performed = rw nothing.0 at through.performed; written = written }
 
   -- what the end report tells of clients up to one, with whatever it tells of those above that one behind it

@@ -2,8 +2,8 @@
 use Rattle.std.proofs.Common.{◌≡◌, ℕ, ◌+◌, List, Some, Ok, Err, sym, refl, ◌∙◌, arith}
 use Rattle.rules.specs.Offers.{Meaning}
 use Rattle.events.specs.declared.event.Event.{Event}
-use Rattle.events.proofs.Cutting.{one_cut}
-use Rattle.events.proofs.Verdicts.{one_verdict}
+use Rattle.events.proofs.OneCut.{one_cut}
+use Rattle.events.proofs.OneVerdict.{one_verdict}
 use Rattle.laws.specs.Broker.{Broker}
 use Rattle.laws.specs.Calls.{Answer}
 use Rattle.laws.proofs.One.{one_answer}

@@ -25,7 +25,7 @@ use Rattle.std.specs.Io.KnownBytes.{Appends}
 use Rattle.std.specs.Io.Buffered.{writer_contents, writer_inner, writer_buffer}
 use Rattle.std.specs.declared.io.buffered.BufWriter.{BufWriter}
 use Rattle.rules.specs.Offers.{Meaning}
-use Rattle.events.specs.Input.{Cuts, Cut}
+use Rattle.events.specs.Input.{CutsOff, IsCutInto}
 use Rattle.laws.specs.Broker as rules
 use Rattle.laws.specs.Broker.{holding}
 use Rattle.laws.specs.Guarantees.{Guarantees}
@@ -59,7 +59,7 @@ pub data LinesPrint (m : Meaning) : rules.Broker → ℕ → List (List ℕ) →
 
 pub record PrintsAll (m : Meaning) (input : List ℕ) (all : List Printed) (calls : Calls) (d : rules.Broker) : Type 0 where
   pub texts : List (List ℕ)
-  pub cut : Cut input texts
+  pub cut : IsCutInto input texts
   pub of_lines : List Printed
   pub performs : LinesPrint m rules.new_broker 1 texts of_lines calls d
   pub of_clients : List Printed
@@ -76,7 +76,7 @@ module _ {P : Type 0} {g : Ghosts P} where
   pub record LinesPerformed (before : Session P g) (input rest : List ℕ) (all : List Printed) (after : Session P g) : Type 0 where
     pub texts : List (List ℕ)
     pub calls : Calls
-    pub cuts : Cuts rest input texts
+    pub cuts : CutsOff rest input texts
     pub performs : LinesPrint (meaning before) (view before) 1 texts all calls (view after)
     pub price : price_of after ≡ price_of before
     -- whatever calls led to the session as it came, with these they lead to it as it is left

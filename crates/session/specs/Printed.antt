@@ -10,7 +10,7 @@
 -- printed_line   the line of each value
 use Rattle.std.specs.Prelude.{ℕ, List, ◌++◌, Some, None, codes, decimal, Option}
 use Rattle.rules.specs.declared.offer.Quote.{Quote}
-use Rattle.events.specs.Told.{told}
+use Rattle.events.specs.LineFaults.{fault_line}
 use Rattle.session.specs.declared.printed.Grant.{Grant}
 use Rattle.session.specs.declared.printed.Taken.{Taken}
 use Rattle.session.specs.declared.printed.Held.{Held}
@@ -52,6 +52,6 @@ printed_line (line.Back client frame) = field (codes "back ") client ++ field (c
 printed_line (line.Leave client frames) = field (codes "leave ") client ++ field (codes " frames ") frames
 printed_line (line.Estimate client) = field (codes "estimate ") client
 printed_line (line.Clock tick ended) = field (codes "clock ") tick ++ field (codes " ended ") ended
-printed_line (line.Refused f) = told f
+printed_line (line.Refused f) = fault_line f
 printed_line (line.Free frames) = field (codes "end free ") frames
 printed_line (line.Client client held) = client_line client held
