@@ -1,9 +1,10 @@
-"""Builds what is timed: the two broker programs and the plain Rust peer, each for release."""
+"""Builds what is measured: the two broker programs and the two plain Rust peers, each for release."""
 
 import pathlib
 import subprocess
 
 HERE = pathlib.Path(__file__).resolve().parent
+PEERS = ("ordered", "tuned")
 
 
 def program(name):
@@ -16,9 +17,12 @@ def program(name):
 
 
 def programs():
+    """The path of each program, by its price."""
     return {"share": program("share_broker"), "class": program("class_broker")}
 
 
-def peer():
-    subprocess.run(["cargo", "build", "--release", "--offline", "--quiet"], cwd=HERE / "peer", check=True)
-    return str(HERE / "peer" / "target" / "release" / "peer")
+def peers():
+    """The path of each peer, by its name. A peer is run with the price as its argument."""
+    for name in PEERS:
+        subprocess.run(["cargo", "build", "--release", "--offline", "--quiet"], cwd=HERE / name, check=True)
+    return {name: str(HERE / name / "target" / "release" / name) for name in PEERS}

@@ -1,7 +1,7 @@
 #!/usr/bin/env python3
 """Prints a load of events of a given size, the same each time.
 
-    python3 bench/load.py asks|mixed|malformed [BYTES]      BYTES is 16,777,216 where it is not given
+    python3 bench/load.py asks|mixed|turnover|malformed [BYTES]      BYTES is 16,777,216 where it is not given
 """
 
 import random
@@ -67,6 +67,19 @@ def mixed(chance):
             yield chance.choice(("Q", "Q 0", "Q 257", "S 7 4096", "T 0", "x"))
 
 
+def turnover(chance):
+    """Clients leave and return under other terms, and estimates are set and end. Nobody asks."""
+    yield from opening(chance)
+    tick = 0
+    while True:
+        client = chance.randint(1, CLIENTS)
+        tick += 1
+        yield "L %d" % client
+        yield admit(chance, client)
+        yield "E %d %d %d" % (chance.randint(1, CLIENTS), chance.randint(0, 60), tick + chance.randint(1, 100))
+        yield "T %d" % tick
+
+
 def malformed(chance):
     """Lines with a fault of every kind, short and long."""
     faults = ["", "q 1", "Q", "Q1", "Q  1", "Q 01", "Q 4294967296", "Q 1 ", "A 1 2 3 4", "A 1 2 3 4 05", "E 1 2 3x",
@@ -75,7 +88,7 @@ def malformed(chance):
         yield chance.choice(faults)
 
 
-LOADS = {"asks": asks, "mixed": mixed, "malformed": malformed}
+LOADS = {"asks": asks, "mixed": mixed, "turnover": turnover, "malformed": malformed}
 
 
 def load(name, size=SIZE):
@@ -91,5 +104,5 @@ def load(name, size=SIZE):
 
 if __name__ == "__main__":
     if len(sys.argv) not in (2, 3) or sys.argv[1] not in LOADS:
-        sys.exit("usage: load.py asks|mixed|malformed [BYTES]")
+        sys.exit("usage: load.py %s [BYTES]" % "|".join(LOADS))
     sys.stdout.buffer.write(load(sys.argv[1], *map(int, sys.argv[2:])))

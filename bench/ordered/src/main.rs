@@ -1,4 +1,4 @@
-//! The job of the two broker programs in plain Rust: `peer share` and `peer class`.
+//! The job of the two broker programs in plain Rust, with ordered sets: `ordered share` and `ordered class`.
 
 mod broker;
 mod line;
@@ -22,7 +22,7 @@ fn main() -> ExitCode {
         ["share"] => run(Share),
         ["class"] => run(Class(Taxed { rate: TAX_RATE })),
         _ => {
-            eprintln!("usage: peer share|class < events");
+            eprintln!("usage: ordered share|class < events");
             return ExitCode::FAILURE;
         }
     };
