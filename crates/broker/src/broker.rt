@@ -9,8 +9,10 @@ use price::Price;
 mod asks;
 mod calls;
 mod clock;
-mod perform;
+mod plain;
 mod questions;
+
+pub use plain::PlainBroker;
 
 /// A broker under a price, in fixed memory: its pool, and the bids, as its price tells them, of exactly those who hold more
 /// than their minimums. The price never changes.

@@ -5,5 +5,5 @@ mod broker;
 mod payers;
 mod slip;
 
-pub use broker::Broker;
+pub use broker::{Broker, PlainBroker};
 pub use slip::{Slip, Undelivered};
