@@ -11,7 +11,7 @@ use Rattle.price.specs.declared.telling.Price.{Ghosts}
 use Rattle.broker.specs.View.{view, Stepped}
 use Rattle.broker.specs.declared.broker.plain.PlainBroker.{PlainBroker}
 use Rattle.broker.specs.Plain.{broker_of}
-use Rattle.family.specs.Families.{Order, Told, At, price_of}
+use Rattle.family.specs.Families.{Order, Outcome, At, price_of}
 
 module _ {P : Type 0} {g : Ghosts P} where
   pub record Renewed (k : ℕ) (bs cs : List (PlainBroker P g)) : Type 0 where
@@ -19,13 +19,14 @@ module _ {P : Type 0} {g : Ghosts P} where
         (c : PlainBroker P g) × At cs i c × ((i < k → view (broker_of c) ≡ new_broker) × (price_of c ≡ price_of b))
     pub brokers : length cs ≡ length bs
 
-  pub record Called (bs : List (PlainBroker P g)) (o : Order) (a : Result Answer Refusal) (cs : List (PlainBroker P g)) : Type 0 where
+  pub record Called (bs : List (PlainBroker P g)) (o : Order) (a : Result Answer Refusal)
+      (cs : List (PlainBroker P g)) : Type 0 where
     pub before : PlainBroker P g
     pub after : PlainBroker P g
     pub there : At bs o.broker before
     pub called : Stepped (broker_of before) o.call a (broker_of after)
     pub others : cs ≡ slice_set bs o.broker after
 
-  abbrev pub Obeyed : List (PlainBroker P g) → Order → Told → List (PlainBroker P g) → Type 0
+  abbrev pub Obeyed : List (PlainBroker P g) → Order → Outcome → List (PlainBroker P g) → Type 0
   Obeyed bs o (Some a) cs = Called bs o a cs
   Obeyed bs o None cs = (length bs ≤ o.broker) × (cs ≡ bs)

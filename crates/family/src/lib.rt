@@ -6,5 +6,5 @@ mod orders;
 mod perform;
 
 pub use alone::each_of_several_brokers_keeps_the_guarantees;
-pub use orders::{Order, Told};
+pub use orders::{Order, Outcome};
 pub use perform::perform_all;

@@ -12,11 +12,11 @@ pub struct Order {
     pub call: Call,
 }
 
-/// What an order is answered, or none where no broker is at its place.
-pub type Told = Option<Result<Answer, Refusal>>;
+/// What the order's broker answers, or none where no broker is at its place.
+pub type Outcome = Option<Result<Answer, Refusal>>;
 
 /// Performs an order on its broker, if there is one.
-pub(crate) fn obey<P: Price>(brokers: &mut [PlainBroker<P>], order: Order) -> Told
+pub(crate) fn obey<P: Price>(brokers: &mut [PlainBroker<P>], order: Order) -> Outcome
     ensures { Obeyed brokers.old order result brokers.new }
 {
     // `get_mut` says nothing of what the brokers are left as, so the broker is called by its place.

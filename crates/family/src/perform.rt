@@ -4,7 +4,7 @@ ghost use Rattle.rules.specs.declared.refusal.Refusal.TheVariants.{BufferTooShor
 ghost use Rattle.family.specs.Families.{Performed};
 ghost use Rattle.family.specs.Orders.{Renewed};
 
-use crate::orders::{Order, Told, obey};
+use crate::orders::{Order, Outcome, obey};
 use broker::PlainBroker;
 use price::Price;
 use rules::Refusal;
@@ -18,26 +18,25 @@ fn renew_all<P: Price>(brokers: &mut [PlainBroker<P>])
     }
 }
 
-/// Makes every broker new under its price, and then performs the orders one after the other, each on the broker at its
-/// place, and writes what each is answered into its place. An order for a place without a broker is answered by none and
-/// touches no broker. Places beyond the answers stay as they were. Fewer places for answers than orders are refused, and
-/// nothing is done.
+/// Makes every broker new under its price, performs the orders one after the other, each on the broker at its place, and
+/// writes the outcome of each into its place. An order for a place without a broker has none and touches no broker. Places
+/// beyond the outcomes stay as they were. Fewer places for outcomes than orders are refused, and nothing is done.
 pub fn perform_all<P: Price>(
     brokers: &mut [PlainBroker<P>],
     orders: &[Order],
-    answers: &mut [Told],
+    outcomes: &mut [Outcome],
 ) -> Result<(), Refusal>
-    ensures performed { OnOk result (Performed brokers.old orders.now answers.old brokers.new answers.new) }
-    ensures short { IfErr result (λ r. (r ≡ BufferTooShort) × (length answers.old < length orders.now)) }
-    ensures unchanged { OnErr result ((brokers.new ≡ brokers.old) × (answers.new ≡ answers.old)) }
+    ensures performed { OnOk result (Performed brokers.old orders.now outcomes.old brokers.new outcomes.new) }
+    ensures short { IfErr result (λ r. (r ≡ BufferTooShort) × (length outcomes.old < length orders.now)) }
+    ensures unchanged { OnErr result ((brokers.new ≡ brokers.old) × (outcomes.new ≡ outcomes.old)) }
 {
-    if answers.len() < orders.len() {
+    if outcomes.len() < orders.len() {
         return Err(Refusal::BufferTooShort);
     }
     renew_all(brokers);
     // Nothing can be proved about places written through a zip with the orders.
     for (i, order) in orders.iter().enumerate() {
-        answers[i] = obey(brokers, *order);
+        outcomes[i] = obey(brokers, *order);
     }
     Ok(())
 }

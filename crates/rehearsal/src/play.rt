@@ -1,7 +1,7 @@
 //! Calls played on all brokers alike.
 use crate::show::{Asked, show_answers};
 use broker::PlainBroker;
-use family::{Order, Told, perform_all};
+use family::{Order, Outcome, perform_all};
 use price::Price;
 use rules::{Call, SlipNumbers};
 use std::alloc::Global;
@@ -12,10 +12,10 @@ use std::{array, io};
 const BROKERS: usize = 3;
 
 /// What each broker answered.
-pub type Answers = [Told; BROKERS];
+pub type Answers = [Outcome; BROKERS];
 
 /// The slip that a broker answered.
-fn slip(answer: Told) -> Option<SlipNumbers> {
+fn slip(answer: Outcome) -> Option<SlipNumbers> {
     answer?.ok()?.slip()
 }
 
@@ -30,12 +30,12 @@ pub struct Play<'a, P: Price, W: Write> {
 }
 
 impl<P: Price, W: Write> Play<'_, P, W> {
-    /// Adds a call on one broker to the orders, performs them all on new brokers, and returns what the last is answered.
-    fn call_one(&mut self, broker: usize, call: Call) -> io::Result<Told> {
+    /// Adds a call on one broker to the orders, performs all of them on new brokers, and returns the outcome of the last.
+    fn call_one(&mut self, broker: usize, call: Call) -> io::Result<Outcome> {
         self.orders.push(Order { broker, call })?;
-        let mut answers = vec![in self.alloc; None; self.orders.len()]?;
-        perform_all(self.brokers, &self.orders, &mut answers).unwrap();
-        Ok(answers.last().copied().flatten())
+        let mut outcomes = vec![in self.alloc; None; self.orders.len()]?;
+        perform_all(self.brokers, &self.orders, &mut outcomes).unwrap();
+        Ok(outcomes.last().copied().flatten())
     }
 
     /// Performs a call on each broker.

@@ -4,7 +4,7 @@ use Rattle.family.proofs.Performing.{sofar_none, sofar_one, all_done}
 use Rattle.family.proofs.perform.perform_all.Goals as goal
 
 pub loop-i-init : goal.loop-i-init
-loop-i-init g c = sofar_none c.args.brokers.now c.renew_all.new.brokers c.args.orders.now c.args.answers.now c.renew_all.ensures
+loop-i-init g c = sofar_none c.args.brokers.now c.renew_all.new.brokers c.args.orders.now c.args.outcomes.now c.renew_all.ensures
 
 pub loop-i-preserved : goal.loop-i-preserved
 loop-i-preserved g c =
