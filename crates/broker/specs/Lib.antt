@@ -1,2 +1,3 @@
 pub mod Bids
 pub mod View
+pub mod Plain

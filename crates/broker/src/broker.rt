@@ -12,7 +12,7 @@ use crate::bids::{self, Bids};
 use crate::slip::{Slip, Undelivered};
 use pool::Pool;
 use price::{Price, ValidOffer};
-use rules::{Admission, Answer, Call, Estimate, Quote, Refusal, SlipNumbers};
+use rules::{Admission, Estimate, Quote, Refusal, SlipNumbers};
 
 /// A broker under a price, in fixed memory: its pool, and the bids, as its price tells them, of exactly the clients that hold
 /// more than their minimums. The price never changes.
@@ -38,6 +38,15 @@ impl<P: Price> Broker<P> {
             pool: Pool::new(),
             bids: Bids::new(),
         }
+    }
+
+    /// Makes it a new broker again, under its price.
+    pub(crate) fn renew(&mut self)
+        ensures view { view self.new ≡ new_broker }
+        ensures price { self.new.price ≡ self.old.price }
+    {
+        self.pool = Pool::new();
+        self.bids = Bids::new();
     }
 
     /// Gives a new broker its unit number, 1 to 999, and its frames, 1 to 4,096, all of them free. Numbers out of range
@@ -178,24 +187,6 @@ impl<P: Price> Broker<P> {
         let dropped = self.drop_ended(tick);
         self.pool.set_tick(tick);
         Ok(dropped)
-    }
-
-    /// Performs a call that is given as plain numbers, a slip by its five numbers, right or wrong.
-    pub fn perform(&mut self, call: Call) -> Result<Answer, Refusal>
-        ensures { Stepped self.old call result self.new }
-    {
-        match call {
-            Call::Start { unit, frames } => self.start(unit, frames).map(|()| Answer::Done),
-            Call::Admit(asked) => self.admit(asked).map(|()| Answer::Done),
-            Call::Ask { client } => self.grant(client).map(Answer::Granted),
-            Call::Deliver { slip } => self.close(slip).map(|()| Answer::Done),
-            Call::HandBack { client } => self.hand_back(client).map(Answer::Frame),
-            Call::Leave { client } => self.leave(client).map(Answer::Count),
-            Call::SetEstimate { client, estimate } => {
-                self.estimate(client, estimate).map(|()| Answer::Done)
-            }
-            Call::SetClock { tick } => self.clock(tick).map(Answer::Count),
-        }
     }
 
     /// How many frames a client holds. A client number outside 1 to 256 is refused, and then a client that is not admitted.

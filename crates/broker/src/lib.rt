@@ -3,7 +3,9 @@
 
 mod bids;
 mod broker;
+mod plain;
 mod slip;
 
 pub use broker::Broker;
+pub use plain::PlainBroker;
 pub use slip::{Slip, Undelivered};

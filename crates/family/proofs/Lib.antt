@@ -1,2 +1,2 @@
 mod Places
-mod Obeying
+mod Performing

@@ -56,7 +56,7 @@ dec_slip s t =
     (λ e. (ap (λ q. q.unit) e, (ap (λ q. q.client) e, (ap (λ q. q.frame) e, (ap (λ q. q.former) e, ap (λ q. q.asks) e)))))
     (Dec.and (ℕ_discrete s.unit t.unit) (Dec.and (ℕ_discrete s.client t.client) (Dec.and (ℕ_discrete s.frame t.frame) (Dec.and (ℕ_discrete s.former t.former) (ℕ_discrete s.asks t.asks)))))
 
-dec_this : (o : Option SlipNumbers) (s : SlipNumbers) → Dec (o ≡ Some s)
+pub dec_this : (o : Option SlipNumbers) (s : SlipNumbers) → Dec (o ≡ Some s)
 dec_this (Some t) s = elim (dec_slip t s) [ yes e ↦ yes (ap Some e) | no f ↦ no (λ p. f (cc)) ]
 dec_this None s = no (λ e. none_some refl e)
 

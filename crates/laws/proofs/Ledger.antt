@@ -102,4 +102,4 @@ run_once m l f h b start = let z = upto_zero 256 in grind (arith, nat_tests)
 run_once m l f h b (then {x = x} {a = a} {d = d} {h = k} r s) = step_once m l f d (history_kept m l k d r) (run_once m l f k d r) x a b s
 
 pub frames_lie_once : FramesLieOnce
-frames_lie_once m l h b r f = run_once m l f h b r
+frames_lie_once m l h b r f = let o = run_once m l f h b r in (λ i. grind (arith, nat_tests), λ i. grind (arith, nat_tests))

@@ -21,3 +21,7 @@ pub mod Worked
 pub mod Reached
 pub mod Table
 pub mod Lines
+pub mod Counted
+pub mod Passages
+pub mod Ranges
+pub mod Holdings

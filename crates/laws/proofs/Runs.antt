@@ -1,5 +1,5 @@
 -- Runs: what holds at each of their brokers, and how they are cut and joined.
-use Rattle.std.proofs.Common.{◌≡◌, ℕ, ◌<◌, ◌≤◌, ◌≢◌, List, [], ◌∷◌, ◌++◌, length, sym, refl, subst, arith, Err, Result}
+use Rattle.std.proofs.Common.{◌≡◌, ℕ, ◌<◌, ◌≤◌, ◌≢◌, List, [], ◌∷◌, ◌++◌, length, sym, refl, subst, arith, Ok, Err, Result}
 use Rattle.rules.specs.declared.call.Call.{Call}
 use Rattle.rules.specs.declared.call.Call.TheVariants.{Ask}
 use Rattle.rules.specs.declared.call.Answer.{Answer}
@@ -66,6 +66,9 @@ refused_step m b x a d n (Calls.accepted clear e) = absurd (n tt)
 
 pub refused_by : (m : Meaning) (b : Broker) (x : Call) (r : Refusal) (d : Broker) → Step m b x (Err r) d → RefusedBy m b x r
 refused_by m b x r d (Calls.refused q) = q
+
+pub accepted_clear : (m : Meaning) (b : Broker) (x : Call) (a : Answer) (d : Broker) → Step m b x (Ok a) d → IsClear m b x
+accepted_clear m b x a d (Calls.accepted clear e) = clear
 
 module _ (m : Meaning) (b : Broker) where
   pub lands : (h : List Event) (d : Broker) → Run m b h d → reached b h ≡ d

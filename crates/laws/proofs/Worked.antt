@@ -7,7 +7,7 @@ use Rattle.rules.specs.Rank.{above, ranks}
 use Rattle.laws.specs.ByNumber.{upto, total}
 use Rattle.laws.specs.Division.{Clients, Settled, minimum_of, capped, bid_of}
 use Rattle.laws.specs.Broker.{Broker, present, shares_of, all_shares, MinimumsWithin}
-use Rattle.laws.specs.Cases.{three, trio, seven, hundred, WorkedExamples}
+use Rattle.laws.specs.Cases.{three, trio, sharing, hundred, WorkedExamples}
 
 -- a test of the numbers below n
 every : ℕ → (ℕ → Bool) → Bool
@@ -70,18 +70,36 @@ worked_examples =
       maximums = settled_by share 7 (trio 0 2) (three 2 2 2 0) (none_past 0 2 2 2 2) refl refl refl;
       one_free = refl;
       proportional = (refl, refl, refl);
-      within = within_by (seven 0) (λ c g. grind (arith, nat_tests)) refl;
-      not_within = λ all. let beyond = all 3 in omega (arith, beyond);
+      within = within_by (sharing 9 5) (λ c g. grind (arith, nat_tests)) refl;
+      not_within = λ all. let beyond = all 1 in omega (arith, beyond);
       tells_share = λ o v. refl;
       taxed_differs = λ same. let e : ◌≡◌ {A = ℕ} 100 4 = ap (λ q. q.bottom) (same (hundred 0 None 4) at_four) in omega arith;
-      keeps = λ b. (λ a. (λ e. cc, λ e. cc), λ a. absurd a);
-      gives_up = λ b. (λ k. (k tt).0 refl, λ k. (k tt).1 refl);
+      keeps = λ x r b a. absurd a;
+      keeps_too = λ b. (λ a. (λ e. cc, λ e. cc), λ a. (λ e. cc, λ e. cc));
+      hands_back = λ b k. (k tt).0 refl;
+      leaves = λ b k. (k tt).1 refl;
       stretch = λ c s. (tt, tt);
+      no_start = λ u F a. a;
+      no_admission = λ y a. a;
+      no_hand_back = λ c a. a;
+      no_leave = λ c a. a;
+      no_estimates = λ c e a. a;
+      no_clock = λ t a. a;
       in_stretch = λ b. (λ a. absurd a, (λ a. absurd a, tt));
       no_stretch = λ b a. a.0 tt;
-      turned = λ b. (inl (refl, inl refl), inr (λ a. a, inl (refl, inr refl)));
-      not_turned = λ b. (λ t. grind arith, λ t. grind arith);
+      at_maximum = λ b. inl (refl, inl refl);
+      outbid = λ b. inr (λ a. a, inl (refl, inr refl));
+      another_refusal = λ b t. grind arith;
+      another_client = λ b t. grind arith;
       no_longer = λ b t. grind arith;
+      at_rest = λ c x e. cc;
+      not_at_rest = λ r. r 1 _ refl;
       asked = λ b. inr (inl refl);
       not_asked = λ b t. grind arith;
+      throughout = (omega arith, omega arith);
+      not_at_end = λ t. omega (arith, t.0);
+      not_at_start = λ t. omega (arith, t.1);
+      tick_fits = (omega arith, omega arith);
+      too_late = (λ t. omega (arith, t), λ t. omega (arith, t));
+      no_tick = λ u F c a s. (tt, tt, tt, tt, tt, tt);
     }

@@ -2,7 +2,8 @@
 --
 -- Estimate, SlipNumbers   as in the code: an active count with its end; the five numbers of a slip
 -- Client           a client admitted: its terms, its estimate or none, and its stack of frames, the top first
--- Broker           unit, frames, tick, count of accepted asks, free stack (the top first), clients by number, open passage
+-- Broker           unit, frames, tick, count of accepted asks, free stack (the top first), clients by number, and the
+--                  open passage
 -- new_broker       no frames, no clients, tick 0
 -- active_of        the active count of an estimate, where there is one
 -- terms_of         a client's terms as they are now, with its active count where an estimate is in force
@@ -14,6 +15,8 @@
 -- all_shares       the shares of all clients admitted now
 -- share_of         its proportional share of the frames, rounded down
 -- MinimumsWithin   every minimum is within its client's proportional share
+-- holder_bid       a client's bid at its holding
+-- asker_bid        a client's bid at one frame more than it holds
 -- Beyond           the client holds more than its minimum
 -- LowestPayer      its bid at its holding ranks lowest among all clients that hold more than their minimums
 -- MayTake          a client may take a frame of the lowest payer
@@ -22,6 +25,7 @@ use Rattle.std.specs.Prelude.{◌≡◌, ℕ, ◌+◌, ◌*◌, ◌/◌, ◌<◌
 pub use Rattle.rules.specs.declared.call.Estimate.{Estimate}
 pub use Rattle.rules.specs.declared.call.SlipNumbers.{SlipNumbers}
 use Rattle.rules.specs.Offers.{Meaning}
+use Rattle.rules.specs.declared.offer.Bid.{Bid}
 use Rattle.rules.specs.declared.offer.Terms.{Terms}
 use Rattle.rules.specs.Rank.{Above, above}
 use Rattle.laws.specs.ByNumber.{total}
@@ -53,7 +57,8 @@ active_of (Some e) = Some e.active
 active_of None = None
 
 abbrev pub terms_of : Option Client → Option Terms
-terms_of (Some x) = Some (record { shares = x.shares; class = x.class; minimum = x.minimum; maximum = x.maximum; active = active_of x.estimate })
+terms_of (Some x) =
+    Some (record { shares = x.shares; class = x.class; minimum = x.minimum; maximum = x.maximum; active = active_of x.estimate })
 terms_of None = None
 
 abbrev pub stack_of : Option Client → List ℕ
@@ -85,16 +90,21 @@ MinimumsWithin b = (c : ℕ) → minimum_of (present b) c * all_shares b ≤ b.f
 abbrev pub Beyond : Broker → ℕ → Type 0
 Beyond b c = minimum_of (present b) c < holding b c
 
+abbrev pub holder_bid : Broker → ℕ → Bid
+holder_bid b c = bid_of (present b) c (holding b c)
+
+abbrev pub asker_bid : Broker → ℕ → Bid
+asker_bid b c = bid_of (present b) c (holding b c + 1)
+
 pub record LowestPayer (m : Meaning) (b : Broker) (p : ℕ) : Type 0 where
   pub beyond : Beyond b p
-  pub lowest : (d : ℕ) → Beyond b d → above m (bid_of (present b) p (holding b p)) (bid_of (present b) d (holding b d)) ≡ false
+  pub lowest : (d : ℕ) → Beyond b d → above m (holder_bid b p) (holder_bid b d) ≡ false
 
 -- A client below its minimum may take one outright. Any other must outrank the lowest payer's bid at its holding by its
 -- own bid at one frame more than it holds.
 abbrev pub MayTake : Meaning → Broker → ℕ → ℕ → Type 0
 MayTake m b c p =
-    LowestPayer m b p
-    × ((holding b c < minimum_of (present b) c) ⊎ Above m (bid_of (present b) c (holding b c + 1)) (bid_of (present b) p (holding b p)))
+    LowestPayer m b p × ((holding b c < minimum_of (present b) c) ⊎ Above m (asker_bid b c) (holder_bid b p))
 
 abbrev pub IsOutbid : Meaning → Broker → ℕ → Type 0
 IsOutbid m b c = (b.free ≡ []) × ((p : ℕ) → MayTake m b c p → ⊥)

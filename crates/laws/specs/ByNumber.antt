@@ -1,4 +1,4 @@
--- What is kept by number, as the clients of a broker or several brokers: sums over client numbers, and one thing replaced.
+-- What is kept by number, as the clients of a broker: sums over client numbers, and one thing replaced.
 --
 -- upto       the sum of a function over the numbers from 1 to n
 -- total      its sum over all client numbers, 1 to 256

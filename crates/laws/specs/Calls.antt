@@ -86,7 +86,11 @@ states b (Ask c) = caller_states b c ++ (entry AtMaximum (maximum_of b c ≤ hol
 states b (Deliver s) = entry NotTheOpenSlip (b.passage ≢ Some s) ∷ []
 states b (HandBack c) = caller_states b c ++ (entry HoldsNoFrame (holding b c ≡ 0) ∷ [])
 states b (Leave c) = caller_states b c
-states b (SetEstimate c e) = caller_states b c ++ (entry ActiveAboveFrames (b.frames < e.active) ∷ entry EndNotAfterClock (e.end ≤ b.tick) ∷ [])
+states b (SetEstimate c e) =
+    caller_states b c
+    ++ (entry ActiveAboveFrames (b.frames < e.active)
+    ∷ entry EndNotAfterClock (e.end ≤ b.tick)
+    ∷ [])
 states b (SetClock tick) = passage_entry b ∷ entry TickBeforeClock (tick < b.tick) ∷ []
 
 abbrev pub unpriced : Broker → Call → List Entry
@@ -111,7 +115,8 @@ numbers i zero = []
 numbers i (suc n) = i ∷ numbers (suc i) n
 
 abbrev pub newcomer : Admission → Client
-newcomer a = record { shares = a.shares; class = a.class; minimum = a.minimum; maximum = a.maximum; estimate = None; stack = [] }
+newcomer a =
+    record { shares = a.shares; class = a.class; minimum = a.minimum; maximum = a.maximum; estimate = None; stack = [] }
 
 abbrev pub with_stack : Client → List ℕ → Client
 with_stack x fs = record x { stack = fs }
@@ -142,7 +147,8 @@ abbrev pub slip : Broker → ℕ → ℕ → ℕ → SlipNumbers
 slip b c f p = record { unit = b.unit; client = c; frame = f; former = p; asks = (b.asks + 1) % 2 ^ 64 }
 
 abbrev pub granted : Broker → ℕ → ℕ → ℕ → List ℕ → (ℕ → Option Client) → Broker
-granted b c f p fs cs = record b { asks = (b.asks + 1) % 2 ^ 64; free = fs; clients = cs; passage = Some (slip b c f p) }
+granted b c f p fs cs =
+    record b { asks = (b.asks + 1) % 2 ^ 64; free = fs; clients = cs; passage = Some (slip b c f p) }
 
 abbrev pub answered : {A : Type 0} → (A → Answer) → Result A Refusal → Result Answer Refusal
 answered word result = result_map_both word (λ r. r) result
@@ -155,10 +161,13 @@ pub data Effect (m : Meaning) (b : Broker) : Call → Answer → Broker → Type
   admitted : {a : Admission} → Effect m b (Admit a) Done (moved b b.free (put b.clients a.client (Some (newcomer a))))
   -- an ask takes the top of the free stack, where one is free
   granted_free : {c f : ℕ} {fs : List ℕ} {x : Client} → b.clients c ≡ Some x → b.free ≡ f ∷ fs →
-      Effect m b (Ask c) (Granted (slip b c f 0)) (granted b c f 0 fs (put b.clients c (Some (with_stack x (f ∷ x.stack)))))
+      Effect m b (Ask c) (Granted (slip b c f 0))
+      (granted b c f 0 fs (put b.clients c (Some (with_stack x (f ∷ x.stack)))))
   -- where none is, it takes the top of the lowest payer's stack
-  granted_from : {c p f : ℕ} {fs : List ℕ} {x y : Client} → b.clients c ≡ Some x → b.free ≡ [] → MayTake m b c p → b.clients p ≡ Some y → y.stack ≡ f ∷ fs →
-      Effect m b (Ask c) (Granted (slip b c f p)) (granted b c f p [] (put (put b.clients p (Some (with_stack y fs))) c (Some (with_stack x (f ∷ x.stack)))))
+  granted_from : {c p f : ℕ} {fs : List ℕ} {x y : Client} →
+      b.clients c ≡ Some x → b.free ≡ [] → MayTake m b c p → b.clients p ≡ Some y → y.stack ≡ f ∷ fs →
+      Effect m b (Ask c) (Granted (slip b c f p))
+      (granted b c f p [] (put (put b.clients p (Some (with_stack y fs))) c (Some (with_stack x (f ∷ x.stack)))))
   -- a delivery closes the passage
   delivered : {s : SlipNumbers} → Effect m b (Deliver s) Done (record b { passage = None })
   -- a hand-back moves the top of the client's stack onto the free stack
@@ -172,7 +181,8 @@ pub data Effect (m : Meaning) (b : Broker) : Call → Answer → Broker → Type
       Effect m b (SetEstimate c e) Done (moved b b.free (put b.clients c (Some (with_estimate x (Some e)))))
   -- the clock drops every estimate that ends by its tick, and answers how many
   clocked : {t : ℕ} →
-      Effect m b (SetClock t) (Count (total (λ c. ends t (b.clients c)))) (record b { tick = t; clients = λ c. lasting t (b.clients c) })
+      Effect m b (SetClock t) (Count (total (λ c. ends t (b.clients c))))
+      (record b { tick = t; clients = λ c. lasting t (b.clients c) })
 
 pub data Step (m : Meaning) (b : Broker) : Call → Result Answer Refusal → Broker → Type 0 where
   -- a refused call changes nothing

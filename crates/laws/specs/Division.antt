@@ -40,7 +40,8 @@ pub record Settled (m : Meaning) (F : ℕ) (cs : Clients) (n : ℕ → ℕ) : Ty
   -- all frames are given, or all that the clients may have
   pub sum : total n ≡ min F (total (capped F cs))
   -- what one client has beyond its minimum ranks above what another below its maximum would get next
-  pub ranked : (c d : ℕ) → c ≢ d → minimum_of cs c < n c → n d < capped F cs d → Above m (bid_of cs c (n c)) (bid_of cs d (n d + 1))
+  pub ranked : (c d : ℕ) → c ≢ d → minimum_of cs c < n c → n d < capped F cs d →
+      Above m (bid_of cs c (n c)) (bid_of cs d (n d + 1))
 
 pub record Admissible (c : ℕ) (t : Terms) : Type 0 where
   pub numbered : Numbered c

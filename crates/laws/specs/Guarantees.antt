@@ -35,6 +35,8 @@ pub record Guarantees (m : Meaning) (h : List Event) : Type 0 where
   -- Under the share price: from an ask of a client that is refused as at its maximum or as outbid, for as long as every
   -- minimum is within its client's proportional share and the client neither hands a frame back nor leaves, it holds no
   -- less than the smallest proportional share that it has had since, rounded down, or than its maximum if that is less.
-  pub no_client_is_shorted : TellsShare m → (c : ℕ) (later since earlier : List Event) (e : Event) → h ≡ later ++ (since ++ (e ∷ earlier)) →
+  pub no_client_is_shorted : TellsShare m → (c : ℕ) (later since earlier : List Event) (e : Event) →
+      h ≡ later ++ (since ++ (e ∷ earlier)) →
       TurnsAway c e → Each (Keeps c) since → Throughout MinimumsWithin e.after since →
-      min (maximum_of (reached e.after since) c) (smallest (λ b. share_of b c) e.after since) ≤ holding (reached e.after since) c
+      min (maximum_of (reached e.after since) c) (smallest (λ b. share_of b c) e.after since)
+      ≤ holding (reached e.after since) c

@@ -20,7 +20,7 @@ use Rattle.rules.specs.Offers.{Meaning}
 use Rattle.rules.specs.declared.refusal.Refusal.{Refusal}
 use Rattle.rules.specs.declared.refusal.Refusal.TheVariants.{AtMaximum, Outbid}
 use Rattle.laws.specs.Broker.{Client, Broker}
-use Rattle.laws.specs.Calls.{Call, Start, Admit, Ask, Deliver, HandBack, Leave, SetEstimate, SetClock, Answer, Granted, Step}
+use Rattle.laws.specs.Calls.{Call, Start, Admit, Ask, Deliver, HandBack, Leave, SetEstimate, SetClock, Answer, Done, Granted, Frame, Count, Step}
 
 pub record Event : Type 0 where
   pub call : Call
@@ -33,7 +33,8 @@ event x a d = record { call = x; answer = a; after = d }
 -- From a new broker a run is a history; any part of one is a run from the broker that it begins at, a stretch.
 pub data Run (m : Meaning) (b : Broker) : List Event → Broker → Type 0 where
   start : Run m b [] b
-  then : {x : Call} {a : Result Answer Refusal} {d e : Broker} {h : List Event} → Run m b h d → Step m d x a e → Run m b (event x a e ∷ h) e
+  then : {x : Call} {a : Result Answer Refusal} {d e : Broker} {h : List Event} →
+      Run m b h d → Step m d x a e → Run m b (event x a e ∷ h) e
 
 abbrev pub reached : Broker → List Event → Broker
 reached b [] = b
@@ -59,8 +60,11 @@ abbrev pub IsRefused : Result Answer Refusal → Type 0
 IsRefused a = IsAccepted a → ⊥
 
 abbrev pub grant : Result Answer Refusal → ℕ
+grant (Ok Done) = 0
 grant (Ok (Granted s)) = 1
-grant a = 0
+grant (Ok (Frame f)) = 0
+grant (Ok (Count n)) = 0
+grant (Err r) = 0
 
 unfoldable pub grants : List Event → ℕ
 grants [] = 0

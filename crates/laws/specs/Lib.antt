@@ -4,7 +4,8 @@ pub mod Broker
 pub mod Calls
 pub mod Questions
 pub mod Histories
-pub mod Families
 pub mod Guarantees
+pub mod Ranges
+pub mod Tallies
 pub mod Laws
 pub mod Cases

@@ -2,7 +2,7 @@
 //! proofs/. Each function here does nothing: its contract is a law.
 #![tactic(auto)]
 
-ghost use Rattle.laws.specs.Laws.{DivisionIsUnique, HistoriesKeepGuarantees, FamiliesKeepGuarantees, FramesLieOnce, OneAnswer, EveryCallIsAnswered, ListsRise, RestIsReached, LowestPayerIsFound};
+ghost use Rattle.laws.specs.Laws.{DivisionIsUnique, HistoriesKeepGuarantees, FramesLieOnce, OneAnswer, EveryCallIsAnswered, ListsRise, RestIsReached, LowestPayerIsFound, BrokersStayInRange, HoldingsAddUp, AsksAreCounted, PassagesFollowAsks};
 ghost use Rattle.laws.specs.Cases.{WorkedExamples};
 
 /// No two different divisions of the same frames among the same clients are settled.
@@ -14,11 +14,6 @@ pub fn settled_division_is_unique()
 /// and the share price shorts no client.
 pub fn every_history_keeps_the_guarantees()
     ensures { HistoriesKeepGuarantees }
-{}
-
-/// Of several brokers, each under a lawful price of its own, each alone keeps the three guarantees, whatever is called.
-pub fn each_of_several_brokers_keeps_the_guarantees()
-    ensures { FamiliesKeepGuarantees }
 {}
 
 /// Every frame is at all times in exactly one stack, once.
@@ -45,6 +40,27 @@ pub fn refusal_numbers_rise()
 /// There is one lowest payer, or none.
 pub fn lowest_payer_is_found()
     ensures { LowestPayerIsFound }
+{}
+
+/// Holdings, terms, minimums, estimates, ticks and the unit stay in their ranges.
+pub fn every_broker_stays_in_range()
+    ensures { BrokersStayInRange }
+{}
+
+/// A client holds as many frames as slips answered its asks, less those that name it as former owner and less its
+/// hand-backs, since its admission.
+pub fn every_holding_adds_up()
+    ensures { HoldingsAddUp }
+{}
+
+/// The count of asks is that of the accepted asks, modulo 2 ^ 64.
+pub fn every_ask_is_counted()
+    ensures { AsksAreCounted }
+{}
+
+/// A passage is open exactly from an accepted ask to the delivery of its slip, and its slip is that ask's.
+pub fn every_passage_follows_its_ask()
+    ensures { PassagesFollowAsks }
 {}
 
 /// Where nothing but asks and deliveries is accepted, accepted asks end, and once each client has asked again and every call

@@ -6,7 +6,7 @@ mod play;
 mod show;
 mod week;
 
-use broker::Broker;
+use broker::PlainBroker;
 use either::{Left, Right};
 use play::Play;
 use price::{ClassPrice, SharePrice, TaxedPrice};
@@ -17,11 +17,11 @@ use week::{friday, monday, tuesday, wednesday};
 fn main(rt: HostRuntime) -> anyhow::Result<()> {
     let taxed = TaxedPrice::new(75).unwrap();
     let classed = ClassPrice::new(taxed);
-    // Kept: of a `Broker<&dyn Price>` the check says that its bound is met by an impl that is not the only match.
+    // Of a `PlainBroker<&dyn Price>` the check says that its bound is met by an impl that is not the only match.
     let mut brokers = [
-        Broker::new(Left(SharePrice)),
-        Broker::new(Right(Left(taxed))),
-        Broker::new(Right(Right(classed))),
+        PlainBroker::new(Left(SharePrice)),
+        PlainBroker::new(Right(Left(taxed))),
+        PlainBroker::new(Right(Right(classed))),
     ];
     let mut out = BufWriter::new(rt.alloc(), rt.stdout())?;
     writeln!(
@@ -29,7 +29,9 @@ fn main(rt: HostRuntime) -> anyhow::Result<()> {
         "call: under the share price; under the taxed price at 75; under the class price over it"
     )?;
     let mut play = Play {
+        alloc: rt.alloc(),
         brokers: &mut brokers,
+        orders: Vec::new(rt.alloc()),
         out: &mut out,
     };
     play.day("monday", &monday())?;
@@ -37,9 +39,10 @@ fn main(rt: HostRuntime) -> anyhow::Result<()> {
     play.day("wednesday", &wednesday())?;
     play.day_of_passage("thursday")?;
     play.day("friday", &friday())?;
-    // Kept: the names stand beside the brokers, since `rehearse` takes a slice of brokers alone.
+    drop(play);
+    // The names stand beside the brokers, since `perform_all` takes a slice of brokers alone.
     for (name, broker) in ["share", "taxed", "class"].iter().zip(&brokers) {
-        show_rest(name, broker, &mut out)?;
+        show_rest(name, broker.broker(), &mut out)?;
     }
     out.flush()?;
     Ok(())

@@ -1,9 +1,10 @@
 //! Calls played on all brokers alike.
 use crate::show::{Asked, show_answers};
-use broker::Broker;
-use family::{Order, Told, rehearse};
+use broker::PlainBroker;
+use family::{Order, Outcome, perform_all};
 use price::Price;
 use rules::{Call, SlipNumbers};
+use std::alloc::Global;
 use std::io::Write;
 use std::{array, io};
 
@@ -11,55 +12,55 @@ use std::{array, io};
 const BROKERS: usize = 3;
 
 /// What each broker answered.
-pub type Answers = [Told; BROKERS];
+pub type Answers = [Outcome; BROKERS];
 
 /// The slip that a broker answered.
-fn slip(answer: Told) -> Option<SlipNumbers> {
+fn slip(answer: Outcome) -> Option<SlipNumbers> {
     answer?.ok()?.slip()
 }
 
-/// The brokers that play, and where their answers are printed.
+/// The brokers that play, all orders so far, and where their answers are printed.
 #[derive(Drop)]
 pub struct Play<'a, P: Price, W: Write> {
-    // Kept: of a lent array of BROKERS it stayed open that it is lent to `rehearse` as a slice (`whole_as_slice`).
-    pub brokers: &'a mut [Broker<P>],
+    pub alloc: Global,
+    // Of a borrowed array of BROKERS it stayed open that it is borrowed as a slice (`whole_as_slice`).
+    pub brokers: &'a mut [PlainBroker<P>],
+    pub orders: Vec<Order>,
     pub out: &'a mut W,
 }
 
 impl<P: Price, W: Write> Play<'_, P, W> {
-    /// Performs a call on one broker.
-    fn call_one(&mut self, broker: usize, call: Call) -> Told {
-        let mut told = [None];
-        rehearse(self.brokers, &[Order { broker, call }], &mut told).unwrap();
-        told[0]
+    /// Adds a call on one broker to the orders, performs all of them on new brokers, and returns the outcome of the last.
+    fn call_one(&mut self, broker: usize, call: Call) -> io::Result<Outcome> {
+        self.orders.push(Order { broker, call })?;
+        let mut outcomes = vec![in self.alloc; None; self.orders.len()]?;
+        perform_all(self.brokers, &self.orders, &mut outcomes).unwrap();
+        Ok(outcomes.last().copied().flatten())
     }
 
     /// Performs a call on each broker.
-    fn call_each(&mut self, call: Call) -> Answers {
-        let orders: [Order; BROKERS] = array::from_fn(|broker| Order { broker, call });
-        let mut answers = [None; BROKERS];
-        rehearse(self.brokers, &orders, &mut answers).unwrap();
-        answers
+    fn call_each(&mut self, call: Call) -> io::Result<Answers> {
+        array::try_from_fn(|broker| self.call_one(broker, call))
     }
 
     /// Delivers the slip of each answer that has one.
-    fn deliver_each(&mut self, answers: &Answers) -> Answers {
-        array::from_fn(|broker| {
-            let slip = slip(answers[broker])?;
-            self.call_one(broker, Call::Deliver { slip })
+    fn deliver_each(&mut self, answers: &Answers) -> io::Result<Answers> {
+        array::try_from_fn(|broker| match slip(answers[broker]) {
+            Some(slip) => self.call_one(broker, Call::Deliver { slip }),
+            None => Ok(None),
         })
     }
 
     /// Performs a call on each broker, and prints the answers.
     fn tell(&mut self, call: Call) -> io::Result<Answers> {
-        let answers = self.call_each(call);
+        let answers = self.call_each(call)?;
         show_answers(&Asked(call), &answers, self.out)?;
         Ok(answers)
     }
 
     /// Delivers what was granted, and prints the answers.
     fn tell_delivery(&mut self, answers: &Answers) -> io::Result<()> {
-        let delivered = self.deliver_each(answers);
+        let delivered = self.deliver_each(answers)?;
         show_answers(&"deliver", &delivered, self.out)
     }
 
@@ -117,7 +118,7 @@ impl<P: Price, W: Write> Play<'_, P, W> {
     }
 
     /// Plays the calls of a day, after which the clients ask until no broker grants anything.
-    // Kept: one `day` that takes a closure over the play is refused: "cannot state an item with such a type in a bound yet".
+    // One `day` that takes a closure over the play is refused: "cannot state an item with such a type in a bound yet".
     pub fn day(&mut self, name: &str, calls: &[Call]) -> io::Result<()> {
         writeln!(self.out, "{name}")?;
         self.calls(calls)?;

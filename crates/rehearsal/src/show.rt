@@ -1,7 +1,7 @@
 //! What is printed.
 use crate::play::Answers;
 use broker::Broker;
-use family::Told;
+use family::Outcome;
 use price::Price;
 use rules::{Admission, Answer, Call, Estimate, Quote};
 use std::io::Write;
@@ -42,7 +42,7 @@ impl fmt::Display for Asked {
 
 /// What a broker answered, as it is printed: a dash where it was not called.
 #[derive(Drop)]
-struct Shown(Told);
+struct Shown(Outcome);
 
 impl fmt::Display for Shown {
     fn fmt<W: fmt::Write>(&self, f: &mut fmt::Formatter<W>) -> fmt::Result {

@@ -1,6 +1,6 @@
 use Rattle.std.proofs.Common.{refl}
 use Rattle.std.proofs.lemmas.Option.{slice_get-get_or}
-use Rattle.family.proofs.rehearsal.obey.Goals as goal
+use Rattle.family.proofs.orders.obey.Goals as goal
 
 pub returns : goal.returns
 returns g c =
