@@ -1,6 +1,5 @@
 -- Asks: who is outbid, and where a frame comes from.
-use Rattle.std.proofs.Common.{◌≡◌, ℕ, ◌+◌, ◌<◌, ◌≤◌, true, false, ◌≢◌, [], length, Some, None, Ok, Err, Option, sym, refl, ap, ◌∙◌, subst, inl, inr, arith}
-use Rattle.std.specs.Option.{ok_or}
+use Rattle.std.proofs.Common.{◌≡◌, ℕ, ◌+◌, ◌<◌, ◌≤◌, true, false, ◌≢◌, [], length, Some, None, Ok, sym, refl, ap, ◌∙◌, subst, inl, inr, arith}
 use Rattle.std.proofs.lemmas.List.{nil_from_length}
 use Rattle.rules.specs.Offers.{Meaning}
 use Rattle.rules.specs.Refusals.{First, Clear}
@@ -28,10 +27,6 @@ use Rattle.price.specs.Keys.{Keyed, KeyOf, outranks, leads}
 use Rattle.broker.specs.Bids.{bid_in}
 use Rattle.broker.specs.View.{Broker, meaning, view}
 use Rattle.broker.proofs.Lowest.{next_bid, outbid_by_nobody, lowest_is, next_ranks, is_outbid, not_itself}
-
--- the error that stands in for none
-pub error_is : {A E : Type 0} {e f : E} (o : Option A) → o ≡ None → Err f ≡ ok_or o e → f ≡ e
-error_is {A} {E} {e} {f} o none h = let same = rw none at h in cc
 
 -- a frame that was granted from where it may come from is a step
 pub granted_step : {m : Meaning} {v : rules.Broker} {c p : ℕ} {s : SlipNumbers} {w : rules.Broker} → v.clients 0 ≡ None → Grants v c p (Some s) w → IsClear m v (Ask c) × (IsSource m v c p × (p ≢ c)) → Step m v (Ask c) (Ok (Granted s)) w

@@ -76,7 +76,9 @@ impl<P: Price> Broker<P> {
         if self.pool.free_frames() > 0 {
             return Ok(0);
         }
-        let lowest = self.bids.lowest().ok_or(Refusal::Outbid)?;
+        let Some(lowest) = self.bids.lowest() else {
+            return Err(Refusal::Outbid);
+        };
         let holding = self.pool.holding(client);
         if holding >= member.minimum {
             let bid = bids::bid(&self.price, client, member, holding + 1);

@@ -2,7 +2,7 @@
 ghost use Rattle.broker_tests.specs.Flat.{flat, flat_is};
 
 use crate::calls::*;
-use broker::Broker;
+use crate::tested::*;
 use price::{Price, ValidOffer};
 use rules::{Answer, Quote, Refusal};
 
@@ -25,43 +25,27 @@ impl Price for FlatPrice {
 
 #[test]
 fn equal_quotes_rank_by_client_and_then_by_count(rt: HostRuntime) {
-    let mut broker = Broker::new(FlatPrice);
-    answers(
-        &rt,
-        &mut broker,
-        &[
-            (start(7, 3), Answer::Done),
-            (admit(1, 1, 0, 0, 3), Answer::Done),
-            (admit(2, 1_000_000, 9, 0, 3), Answer::Done),
-            (admit(3, 1, 0, 1, 3), Answer::Done),
-        ],
-    );
-    asks(
-        &rt,
-        &mut broker,
-        &[(1, free(1)), (2, free(2)), (2, free(3))],
-    );
+    let mut tested = Tested::new(&rt, FlatPrice);
+    tested.answers(&[
+        (start(7, 3), Answer::Done),
+        (admit(1, 1, 0, 0, 3), Answer::Done),
+        (admit(2, 1_000_000, 9, 0, 3), Answer::Done),
+        (admit(3, 1, 0, 1, 3), Answer::Done),
+    ]);
+    tested.asks(&[(1, free(1)), (2, free(2)), (2, free(3))]);
     // the higher number pays less, and a client's own bid at one frame more ranks below its bid
-    assert_eq!(rt; broker.lowest_payer(), Some(2));
-    asks(
-        &rt,
-        &mut broker,
-        &[
-            (2, Err(Refusal::Outbid)),
-            (1, taken(3, 2)),
-            (1, taken(2, 2)),
-            (2, Err(Refusal::Outbid)),
-        ],
-    );
+    assert_eq!(rt; tested.broker.lowest_payer(), Some(2));
+    tested.asks(&[
+        (2, Err(Refusal::Outbid)),
+        (1, taken(3, 2)),
+        (1, taken(2, 2)),
+        (2, Err(Refusal::Outbid)),
+    ]);
     // client 3 gets its minimum without a comparison; then client 1 is the lowest payer itself
-    asks(
-        &rt,
-        &mut broker,
-        &[
-            (3, taken(2, 1)),
-            (3, Err(Refusal::Outbid)),
-            (1, Err(Refusal::Outbid)),
-        ],
-    );
-    assert_eq!(rt; broker.lowest_payer(), Some(1));
+    tested.asks(&[
+        (3, taken(2, 1)),
+        (3, Err(Refusal::Outbid)),
+        (1, Err(Refusal::Outbid)),
+    ]);
+    assert_eq!(rt; tested.broker.lowest_payer(), Some(1));
 }

@@ -17,3 +17,5 @@ mod ranges;
 #[cfg(test)]
 mod sessions;
 mod slips;
+#[cfg(test)]
+mod tested;

@@ -1,6 +1,7 @@
 //! The calls by their own methods, with slips that are values.
 use crate::calls::*;
 use crate::slips::{ask_and_deliver, deliver_elsewhere_first};
+use crate::tested::*;
 use broker::Broker;
 use price::SharePrice;
 use rules::{Call, Estimate, Refusal, SlipNumbers};
@@ -8,10 +9,10 @@ use std::test::Fail;
 
 #[test]
 fn a_delivered_slip_closes_its_passage(rt: HostRuntime) -> Result<(), Fail> {
-    let mut broker = Broker::new(SharePrice);
-    broker.start(7, 2)?;
-    broker.admit(admission(1, 300, 0, 0, 2))?;
-    broker.admit(admission(2, 100, 0, 0, 1))?;
+    let mut tested = Tested::new(&rt, SharePrice);
+    tested.broker.start(7, 2)?;
+    tested.broker.admit(admission(1, 300, 0, 0, 2))?;
+    tested.broker.admit(admission(2, 100, 0, 0, 1))?;
     let first = SlipNumbers {
         unit: 7,
         client: 1,
@@ -19,38 +20,34 @@ fn a_delivered_slip_closes_its_passage(rt: HostRuntime) -> Result<(), Fail> {
         former: 0,
         asks: 1,
     };
-    assert_eq!(rt; ask_and_deliver(&mut broker, 1), Ok(first));
-    refuses(
-        &rt,
-        &mut broker,
-        &[(Call::Deliver { slip: first }, Refusal::NotTheOpenSlip)],
-    );
-    broker.estimate(1, Estimate { active: 1, end: 3 })?;
+    assert_eq!(rt; ask_and_deliver(&mut tested.broker, 1), Ok(first));
+    tested.refuses(&[(Call::Deliver { slip: first }, Refusal::NotTheOpenSlip)]);
+    tested.broker.estimate(1, Estimate { active: 1, end: 3 })?;
     let second = SlipNumbers {
         client: 2,
         frame: 2,
         asks: 2,
         ..first
     };
-    assert_eq!(rt; ask_and_deliver(&mut broker, 2), Ok(second));
-    assert_eq!(rt; broker.clock(3), Ok(1));
-    assert_eq!(rt; broker.hand_back(1), Ok(1));
+    assert_eq!(rt; ask_and_deliver(&mut tested.broker, 2), Ok(second));
+    assert_eq!(rt; tested.broker.clock(3), Ok(1));
+    assert_eq!(rt; tested.broker.hand_back(1), Ok(1));
     assert_eq!(rt;
-        ask_and_deliver(&mut broker, 2).err(),
+        ask_and_deliver(&mut tested.broker, 2).err(),
         Some(Refusal::AtMaximum)
     );
     assert_eq!(rt;
-        ask_and_deliver(&mut broker, 257).err(),
+        ask_and_deliver(&mut tested.broker, 257).err(),
         Some(Refusal::ClientOutOfRange)
     );
-    assert_eq!(rt; broker.leave(2), Ok(1));
+    assert_eq!(rt; tested.broker.leave(2), Ok(1));
     // the frame that came free last is on top, and a refused ask does not count
     let third = SlipNumbers {
         frame: 2,
         asks: 3,
         ..first
     };
-    assert_eq!(rt; ask_and_deliver(&mut broker, 1), Ok(third));
+    assert_eq!(rt; ask_and_deliver(&mut tested.broker, 1), Ok(third));
     Ok(())
 }
 

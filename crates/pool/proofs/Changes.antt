@@ -1,5 +1,5 @@
 -- Frames handed back, clients that leave, and estimates.
-use Rattle.std.proofs.Common.{◌≡◌, ℕ, List, [], ◌∷◌, length, set, Some, None, Ok, Option, refl, ap, ◌∙◌, inl, arith}
+use Rattle.std.proofs.Common.{◌≡◌, ℕ, List, [], ◌∷◌, length, set, Some, None, Ok, Option, refl, ap, ◌∙◌, inl, arith, ◌≢◌}
 use Rattle.rules.specs.Offers.{Meaning}
 use Rattle.rules.specs.declared.refusal.Refusal.{Refusal}
 use Rattle.rules.specs.declared.refusal.Refusal.TheVariants.{HoldsNoFrame}
@@ -14,6 +14,7 @@ use Rattle.ledger.specs.Stacks.{Moved, Freed}
 use Rattle.pool.specs.Records.{Member}
 use Rattle.pool.specs.Members.{Members, member_of, IsSetAt}
 use Rattle.pool.specs.View.{Pool, view, client_with, client_of}
+use Rattle.pool.proofs.Records.{member_numbered}
 use Rattle.pool.proofs.Views.{seen_with, from_parts}
 use Rattle.pool.proofs.Tables.{client_is, changed_clients, set_clients}
 
@@ -30,9 +31,11 @@ hand_back_step m b k c f x e v same clear =
     from_parts (Step m (view b) (HandBack c) (Ok (Frame f))) (view b) same v.given after
     (accepted (clear_after (caller_entries (view b) c) (empty_handed (view b) c) clear (some, tt)) (handed_back {x = client_with x (stack_of b.ledger c)} it v.taken))
 
-pub leave_step : (m : Meaning) (b : Pool) (t : Members) (k : Ledger) (c r : ℕ) (x : Member) → IsSetAt b.members c None t → member_of b.members c ≡ Some x → Freed (stack_of b.ledger) (stack_of k) c r → k.frames ≡ b.ledger.frames →
+pub leave_step : (m : Meaning) (b : Pool) (t : Members) (k : Ledger) (c r : ℕ) (x : Member) → IsSetAt b.members c None t → member_of b.members c ≡ Some x → (c ≢ 0 → Freed (stack_of b.ledger) (stack_of k) c r) → k.frames ≡ b.ledger.frames →
     IsClear m (view b) (Leave c) → Step m (view b) (Leave c) (Ok (Count r)) (seen_with b t k)
-leave_step m b t k c r x set e v same clear =
+leave_step m b t k c r x set e freed same clear =
+    let n = member_numbered b.members c x e in
+    let v = freed (λ z. omega (arith, n, z)) in
     let after = set_clients b t (stack_of k) c None None set refl v.others in
     rw v.counted (from_parts (Step m (view b) (Leave c) (Ok (Count (length (stack_of b.ledger c))))) (view b) same v.free after
     (accepted clear (left {x = client_with x (stack_of b.ledger c)} (client_is b c x e))))

@@ -1,18 +1,14 @@
 -- The first end of an estimate, and one estimate dropped.
 use Rattle.std.proofs.Common.{◌≡◌, ℕ, ◌<◌, List, Some, None, Option, refl, ap, ◌∙◌, arith}
-use Rattle.std.specs.Map.{update}
-use Rattle.std.specs.Prelude.{nat_eq}
 use Rattle.std.proofs.lemmas.Option.{same_Some}
 use Rattle.std.proofs.lemmas.Bool.Decides.{nat_tests}
 use Rattle.heap.specs.Heaps.{Least}
 use Rattle.heap.specs.Indexed.{keys_in}
-use Rattle.laws.specs.ByNumber.{put}
 use Rattle.laws.specs.Broker.{Estimate}
 use Rattle.laws.specs.Calls.{ended, ends, moved, with_estimate}
 use Rattle.laws.proofs.Kept.{none_some}
-use Rattle.laws.proofs.Puts.{put_at, put_off, put_each}
 use Rattle.pool.specs.declared.ends.End.{End}
-use Rattle.pool.specs.Ends.{leads, tick_of, end_of}
+use Rattle.pool.specs.Ends.{leads, tick_of}
 use Rattle.pool.specs.Records.{Member, estimate_end, end_in, ended_in}
 use Rattle.pool.specs.Members.{Members, member_of, IsSetAt}
 use Rattle.pool.specs.View.{Pool, view, client_with, client_of}
@@ -20,15 +16,6 @@ use Rattle.pool.specs.Clocks.{IsFirstEnded, DropsFrom}
 use Rattle.pool.proofs.Views.{seen_with}
 use Rattle.pool.proofs.Tables.{client_is, set_clients}
 use Rattle.ledger.specs.Ledgers.{stack_of}
-
--- another end, or none, put among the heap's
-pub end_put : (es fs : ℕ → Option End) (c : ℕ) (k : Option End) → ((d : ℕ) → fs d ≡ update nat_eq es c k d) →
-    (d : ℕ) → tick_of (fs d) ≡ put (λ n. tick_of (es n)) c (tick_of k) d
-unfolding put
-end_put es fs c k h d = grind (arith, nat_tests, h d)
-
-pub noted_put : (t : Members) (c : ℕ) (v : Option Member) (d : ℕ) → put (end_of t.ends) c (end_in v) d ≡ end_in (put (member_of t) c v d)
-noted_put t c v = put_each (member_of t) c v (λ d o. put (end_of t.ends) c (end_in v) d ≡ end_in o) (put_at (end_of t.ends) c (end_in v)) (λ d ne. put_off (end_of t.ends) c (end_in v) d ne ∙ t.noted d)
 
 -- an estimate that ends at no tick, or only after t, does not end by t
 later : (t : ℕ) (v : Option Estimate) → ((s : ℕ) → estimate_end v ≡ Some s → t < s) → ended t v ≡ 0

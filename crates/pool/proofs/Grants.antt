@@ -1,18 +1,18 @@
 -- Frames granted: from the free stack, or from another client.
 use Rattle.std.proofs.Common.{◌≡◌, ℕ, zero, suc, ◌+◌, ◌%◌, ◌^◌, ◌≤◌, ◌≢◌, List, [], ◌∷◌, length, Some, None, Option, refl, ap, ◌∙◌, arith}
 use mathlib.Core.Path.{fun_ext}
-use Rattle.std.proofs.lemmas.List.{get_or_past}
-use Rattle.laws.specs.ByNumber.{Numbered, put}
+use Rattle.laws.specs.ByNumber.{put}
 use Rattle.laws.specs.Broker as rules
 use Rattle.laws.specs.Calls.{slip}
-use Rattle.laws.proofs.Kept.{none_some, some_there}
+use Rattle.laws.proofs.Kept.{some_there}
 use Rattle.laws.proofs.Puts.{put_each}
 use Rattle.ledger.specs.declared.ledger.Ledger.{Ledger}
 use Rattle.ledger.specs.Ledgers.{stack_of}
 use Rattle.ledger.specs.Stacks.{Moved}
 use Rattle.pool.specs.Records.{Member}
-use Rattle.pool.specs.Members.{Members, member_of}
+use Rattle.pool.specs.Members.{member_of}
 use Rattle.pool.specs.View.{Pool, view, client_with, client_of, Grants, free, from, nothing}
+use Rattle.pool.proofs.Records.{member_numbered}
 use Rattle.pool.proofs.Views.{clients_of, seen, from_parts, same_client}
 use Rattle.pool.proofs.Tables.{client_is, changed_clients}
 
@@ -25,11 +25,6 @@ noted None fs h = absurd (h refl)
 none_with : (o : Option Member) (fs : List ℕ) → fs ≡ [] → rules.stack_of (client_of o fs) ≡ []
 none_with (Some x) fs e = e
 none_with None fs e = refl
-
--- a member has a client number
-pub member_numbered : (t : Members) (c : ℕ) (x : Member) → member_of t c ≡ Some x → Numbered c
-member_numbered t zero x e = absurd (none_some refl e)
-member_numbered t (suc i) x e = grind (arith, t.places, e, get_or_past t.table i None)
 
 module _ (b : Pool) (k : Ledger) (c f : ℕ) (same : k.frames ≡ b.ledger.frames) where
   abbrev before : rules.Broker

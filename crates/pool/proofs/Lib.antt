@@ -6,4 +6,3 @@ pub mod Changes
 pub mod Grants
 pub mod Clocks
 pub mod Drops
-pub mod Nexts

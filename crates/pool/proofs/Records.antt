@@ -1,12 +1,19 @@
 -- The table of the clients' records.
-use Rattle.std.proofs.Common.{◌≡◌, ℕ, zero, suc, ◌+◌, ◌-◌, ◌*◌, ◌≤◌, set, replicate, None, Some, Option, refl, ap, ◌∙◌, subst, add-one, arith}
-use Rattle.std.proofs.lemmas.List.{get_or-set_same}
+use Rattle.std.proofs.Common.{◌≡◌, ℕ, zero, suc, ◌+◌, ◌-◌, ◌*◌, ◌≤◌, set, replicate, None, Some, Option, sym, refl, ap, ◌∙◌, subst, add-one, arith, ◌≢◌}
+use Rattle.std.specs.Map.{update}
+use Rattle.std.specs.Prelude.{nat_eq}
+use Rattle.std.proofs.lemmas.List.{get_or-set_same, get_or_past}
+use Rattle.std.proofs.lemmas.Map.{update_here, update_apart}
+use Rattle.heap.specs.Indexed.{keys_in}
 use Rattle.laws.specs.ByNumber.{upto, total, Numbered, put, by_number}
-use Rattle.laws.proofs.Puts.{put_each, put_sum}
+use Rattle.laws.proofs.Puts.{each_but, put_each, put_sum}
 use Rattle.laws.proofs.Sums.{upto_same, upto_zero, at_le_upto}
 use Rattle.laws.proofs.Table.{number_off}
 use Rattle.ledger.proofs.Fills.{same_at}
-use Rattle.pool.specs.Records.{Member, shares_in, minimum_in}
+use Rattle.laws.proofs.Kept.{none_some}
+use Rattle.pool.specs.declared.ends.End.{End}
+use Rattle.pool.specs.Ends.{tick_of}
+use Rattle.pool.specs.Records.{Member, shares_in, minimum_in, end_in, KeepsEnds}
 use Rattle.pool.specs.Members.{Members, member_of}
 
 -- where no number is more than k, n of them together are no more than n times k
@@ -38,6 +45,11 @@ nothing_summed = omega (arith, upto_zero 256, upto_same 256 (λ c. minimum_in (b
 pub few_minimums : (t : Members) → t.minimums ≤ 4_096 * 256
 few_minimums t = omega (arith, upto_few 4_096 256 (λ d. minimum_in (member_of t d)) (λ d. few_minimum (member_of t d)), t.summed)
 
+-- a member has a client number
+pub member_numbered : (t : Members) (c : ℕ) (x : Member) → member_of t c ≡ Some x → Numbered c
+member_numbered t zero x e = absurd (none_some refl e)
+member_numbered t (suc i) x e = grind (arith, t.places, e, get_or_past t.table i None)
+
 module _ (t : Members) (c : ℕ) (n : Numbered c) where
   -- all together are no less than each of them
   pub minimum_among : minimum_in (member_of t c) ≤ t.minimums
@@ -46,12 +58,24 @@ module _ (t : Members) (c : ℕ) (n : Numbered c) where
   pub shares_among : shares_in (member_of t c) ≤ total (λ d. shares_in (member_of t d))
   shares_among = at_le_upto 256 (λ d. shares_in (member_of t d)) c n
 
-  pub set_put : (v : Option Member) (d : ℕ) → by_number (set t.table (c - 1) v) d ≡ put (member_of t) c v d
-  set_put v =
+  set_here : (v : Option Member) → by_number (set t.table (c - 1) v) c ≡ v
+  set_here v =
       let e : suc (c - 1) ≡ c = omega arith in
-      put_each (member_of t) c v (λ d z. by_number (set t.table (c - 1) v) d ≡ z)
-      (subst (λ (k : ℕ). by_number (set t.table (c - 1) v) k ≡ v) e (get_or-set_same t.table (c - 1) v None (omega (arith, t.places))))
-      (λ d ne. number_off t.table (c - 1) v d (λ q. ne (q ∙ e)))
+      subst (λ (k : ℕ). by_number (set t.table (c - 1) v) k ≡ v) e (get_or-set_same t.table (c - 1) v None (omega (arith, t.places)))
+
+  set_off : (v : Option Member) (d : ℕ) → d ≢ c → by_number (set t.table (c - 1) v) d ≡ member_of t d
+  set_off v d ne = number_off t.table (c - 1) v d (omega arith)
+
+  pub set_put : (v : Option Member) (d : ℕ) → by_number (set t.table (c - 1) v) d ≡ put (member_of t) c v d
+  set_put v = put_each (member_of t) c v (λ d z. by_number (set t.table (c - 1) v) d ≡ z) (set_here v) (set_off v)
+
+  -- where the end of the estimate in a record is put among the ends, they are those of the records still
+  pub set_end : (v : Option Member) (e : Option End) (es : ℕ → Option End) → tick_of e ≡ end_in v → ((d : ℕ) → es d ≡ update nat_eq (keys_in t.ends) c e d) →
+      KeepsEnds (set t.table (c - 1) v) (λ d. tick_of (es d))
+  set_end v e es tick change =
+      each_but c (λ d. tick_of (es d) ≡ end_in (by_number (set t.table (c - 1) v) d))
+      (ap tick_of (change c ∙ update_here (keys_in t.ends) c e) ∙ (tick ∙ ap end_in (sym (set_here v))))
+      (λ d ne. ap tick_of (change d ∙ update_apart (keys_in t.ends) c e d ne) ∙ (t.noted d ∙ ap end_in (sym (set_off v d ne))))
 
   pub set_sum : (v : Option Member) → t.minimums - minimum_in (member_of t c) + minimum_in v ≡ total (λ d. minimum_in (by_number (set t.table (c - 1) v) d))
   set_sum v =

@@ -1,5 +1,5 @@
 -- A new broker, and one that is given its frames.
-use Rattle.std.proofs.Common.{◌≡◌, ℕ, zero, suc, true, false, List, [], ◌∷◌, is_ok, None, Ok, Err, MatchResult, Option, Result, sym, refl, ap, ◌∙◌, add-one, arith}
+use Rattle.std.proofs.Common.{◌≡◌, ℕ, zero, suc, List, [], ◌∷◌, None, Ok, Option, sym, refl, ap, ◌∙◌, add-one, arith}
 use mathlib.Core.Path.{fun_ext}
 use Rattle.std.specs.List.{range_with_len}
 use Rattle.std.proofs.lemmas.List.{nil_from_length}
@@ -33,12 +33,3 @@ pub start_step : (m : Meaning) (b : Pool) (k : Ledger) (u F : ℕ) → Started b
 start_step m b k u F s clear =
     from_parts (Step m (view b) (Start u F) (Ok Done)) (record (view b) { unit = u }) s.frames (s.all_free.free ∙ counted 1 F)
     (fun_ext (λ c. same_client b.members (stack_of b.ledger) (stack_of k) c (λ pos. s.all_free.others c pos ∙ sym (no_stack b.ledger s.none_before c)))) (accepted clear started)
-
--- what a clause says of a result whose variant is known
-pub at_ok : {T E : Type 0} (P : T → Type 0) (Q : E → Type 0) (r : Result T E) → true ≡ is_ok r → MatchResult r P Q → (x : T) × P x
-at_ok P Q (Ok x) e h = (x, h)
-at_ok P Q (Err d) e h = grind (arith, e)
-
-pub at_err : {T E : Type 0} (P : T → Type 0) (Q : E → Type 0) (r : Result T E) → false ≡ is_ok r → MatchResult r P Q → (d : E) × Q d
-at_err P Q (Ok x) e h = grind (arith, e)
-at_err P Q (Err d) e h = (d, h)

@@ -26,6 +26,10 @@ pub from_parts : (P : rules.Broker → Type 0) (v : rules.Broker) {F G : ℕ} {f
     P (record v { frames = G; free = gs; clients = ds }) → P (record v { frames = F; free = fs; clients = cs })
 from_parts P v e f g h = rw (e, f, g) h
 
+-- a refused call that leaves the broker as it was
+pub refused_same : {m : Meaning} {b d : rules.Broker} {x : Call} {e : Refusal} → d ≡ b → RefusedBy m b x e → Step m b x (Err e) d
+refused_same same f = rw same (refused f)
+
 -- the exit of a call whose answer hands a refusal on
 pub refused_exit : {A : Type 0} {m : Meaning} {b d : rules.Broker} {x : Call} (word : A → Answer) (e : Refusal) (r : Result A Refusal) →
     IsErrAnd r (λ y. y ≡ e) → d ≡ b → RefusedBy m b x e → Step m b x (answered word r) d

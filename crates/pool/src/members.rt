@@ -1,6 +1,8 @@
 //! The table of the clients' records.
-ghost use Rattle.std.specs.Prelude.{◌≡◌, ℕ, None, length};
-ghost use Rattle.laws.specs.ByNumber.{total, put, Numbered, by_number};
+ghost use Rattle.std.specs.Prelude.{◌≡◌, ℕ, None, length, nat_eq};
+ghost use Rattle.std.specs.Map.{update};
+ghost use Rattle.heap.specs.Indexed.{keys_in};
+ghost use Rattle.laws.specs.ByNumber.{total, Numbered, by_number};
 ghost use Rattle.pool.specs.Ends.{tick_of, end_of};
 ghost use Rattle.pool.specs.Records.{shares_in, minimum_in, end_in, KeepsEnds};
 
@@ -38,7 +40,7 @@ fn end(member: Option<Member>) -> Option<End>
 /// Puts the end of a client's estimate, or none, among the others.
 fn set_end(ends: &mut IndexedHeap<End, 257>, client: u32, end: Option<End>)
     requires { Numbered client }
-    ensures { (c : ℕ) → end_of ends.new c ≡ put (end_of ends.old) client (tick_of end) c }
+    ensures { (c : ℕ) → keys_in ends.new c ≡ update nat_eq (keys_in ends.old) client end c }
 {
     match end {
         Some(end) => ends.put(client as usize, end),

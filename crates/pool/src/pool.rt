@@ -62,9 +62,9 @@ impl Pool {
         if !(1..=4_096).contains(&frames) || !(1..=999).contains(&unit) {
             return Err(Refusal::PoolOutOfRange);
         }
-        self.ledger
-            .start(frames as u16)
-            .map_err(|_| Refusal::AlreadyStarted)?;
+        let Ok(()) = self.ledger.start(frames as u16) else {
+            return Err(Refusal::AlreadyStarted);
+        };
         self.unit = unit;
         Ok(())
     }
@@ -192,10 +192,9 @@ impl Pool {
         ensures { Steps self.old (HandBack client) (answered Frame result) self.new }
     {
         self.caller(client)?;
-        let frame = self
-            .ledger
-            .move_top(client as usize, 0)
-            .ok_or(Refusal::HoldsNoFrame)?;
+        let Some(frame) = self.ledger.move_top(client as usize, 0) else {
+            return Err(Refusal::HoldsNoFrame);
+        };
         Ok(frame as u32)
     }
 
@@ -303,6 +302,11 @@ impl Pool {
     pub fn next_client(&self, after: u32) -> Option<u32>
         ensures { IsNextClient (view self.now) after result }
     {
-        (after.saturating_add(1)..257).find(|&client| self.members.get(client).is_some())
+        for client in after.saturating_add(1)..257 {
+            if self.members.get(client).is_some() {
+                return Some(client);
+            }
+        }
+        None
     }
 }

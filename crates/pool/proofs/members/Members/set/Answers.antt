@@ -1,9 +1,7 @@
-use Rattle.std.proofs.Common.{sym, ap, ◌∙◌, arith}
-use Rattle.laws.specs.ByNumber.{put}
-use Rattle.pool.specs.Ends.{end_of}
-use Rattle.pool.specs.Records.{minimum_in, end_in}
-use Rattle.pool.proofs.Records.{minimum_among, few_minimum, few_minimums, set_put, set_sum}
-use Rattle.pool.proofs.Drops.{noted_put}
+use Rattle.std.proofs.Common.{ap, arith}
+use Rattle.heap.specs.Indexed.{keys_in}
+use Rattle.pool.specs.Records.{minimum_in}
+use Rattle.pool.proofs.Records.{minimum_among, few_minimum, few_minimums, set_put, set_sum, set_end}
 use Rattle.pool.proofs.members.Members.set.Goals as goal
 
 pub overflow_sub-self : goal.overflow_sub-self
@@ -17,10 +15,8 @@ invariant_of-self-clause-summed c =
     omega (arith, ap minimum_in c.get-before.ensures, set_sum c.args.self.now c.args.client c.requires c.args.member)
 
 pub invariant_of-self-clause-noted : goal.invariant_of-self-clause-noted
-invariant_of-self-clause-noted c d =
-    let t = c.args.self.now in
-    let v = c.args.member in
-    c.set_end.ensures d ∙ (ap (λ o. put (end_of t.ends) c.args.client o d) c.end.ensures ∙ (noted_put t c.args.client v d ∙ ap end_in (sym (set_put t c.args.client c.requires v d))))
+invariant_of-self-clause-noted c =
+    set_end c.args.self.now c.args.client c.requires c.args.member c.end.result (keys_in c.set_end.new.ends) c.end.ensures c.set_end.ensures
 
 pub returns : goal.returns
 returns c = set_put c.args.self.now c.args.client c.requires c.args.member

@@ -1,9 +1,5 @@
 use Rattle.std.proofs.Common.{None, refl, arith}
-use Rattle.rules.specs.declared.refusal.Refusal.TheVariants.{ClientOutOfRange}
-use Rattle.rules.proofs.Named.{cleared}
-use Rattle.laws.specs.Calls.{caller_entries}
-use Rattle.laws.proofs.Kept.{inside}
-use Rattle.pool.specs.View.{view}
+use Rattle.pool.proofs.Records.{member_numbered}
 use Rattle.pool.proofs.Views.{refused_exit}
 use Rattle.pool.proofs.Tables.{set_held}
 use Rattle.pool.proofs.Changes.{leave_step}
@@ -14,14 +10,13 @@ returns-in_err-caller c = λ m. (refused_exit _ _ c.from_residual.result c.from_
 
 pub invariant_of-self : goal.invariant_of-self
 invariant_of-self c =
-    let n = inside 1 256 c.args.client (cleared (caller_entries (view c.args.self.now) c.args.client) ClientOutOfRange c.in_ok-caller.ensures.0) in
+    let b = c.args.self.now in
+    let n = member_numbered b.members c.args.client c.in_ok-caller.field-0 c.in_ok-caller.ensures.1 in
     let v = c.release-frames.ensures.freed (λ z. omega (arith, n, z)) in
-    record { held = set_held c.args.self.now c.set.new.self c.release-frames.new.self c.args.client None c.set.ensures (λ _. v.emptied) v.others }
+    record { held = set_held b c.set.new.self c.release-frames.new.self c.args.client None c.set.ensures (λ _. v.emptied) v.others }
 
 pub returns : goal.returns
 returns c =
-    let found = c.in_ok-caller.ensures in
-    let n = inside 1 256 c.args.client (cleared (caller_entries (view c.args.self.now) c.args.client) ClientOutOfRange found.0) in
-    let v = c.release-frames.ensures.freed (λ z. omega (arith, n, z)) in
-    let l = c.release-frames.new.self in
-    λ m. (leave_step m c.args.self.now c.set.new.self l c.args.client c.release-frames.result c.in_ok-caller.field-0 c.set.ensures found.1 v c.release-frames.ensures.frames found.0)
+    let b = c.args.self.now in
+    let l = c.release-frames in
+    λ m. (leave_step m b c.set.new.self l.new.self c.args.client l.result c.in_ok-caller.field-0 c.set.ensures c.in_ok-caller.ensures.1 l.ensures.freed l.ensures.frames c.in_ok-caller.ensures.0)
