@@ -34,7 +34,7 @@ fn equal_quotes_rank_by_client_and_then_by_count(rt: HostRuntime) {
     ]);
     tested.asks(&[(1, free(1)), (2, free(2)), (2, free(3))]);
     // the higher number pays less, and a client's own bid at one frame more ranks below its bid
-    assert_eq!(rt; tested.broker.lowest_payer(), Some(2));
+    assert_eq!(rt; tested.broker().lowest_payer(), Some(2));
     tested.asks(&[
         (2, Err(Refusal::Outbid)),
         (1, taken(3, 2)),
@@ -47,5 +47,5 @@ fn equal_quotes_rank_by_client_and_then_by_count(rt: HostRuntime) {
         (3, Err(Refusal::Outbid)),
         (1, Err(Refusal::Outbid)),
     ]);
-    assert_eq!(rt; tested.broker.lowest_payer(), Some(1));
+    assert_eq!(rt; tested.broker().lowest_payer(), Some(1));
 }

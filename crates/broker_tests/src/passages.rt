@@ -22,10 +22,10 @@ fn an_open_passage_waits_for_its_slip(rt: HostRuntime) {
         asks: 4,
     };
     tested.refuses(&[(Call::Deliver { slip }, Refusal::NotTheOpenSlip)]);
-    assert_eq!(rt; tested.broker.perform(ask(1)), Ok(Answer::Granted(slip)));
-    assert_eq!(rt; tested.broker.holding(1), Ok(1));
-    assert_eq!(rt; tested.broker.holding(2), Ok(2));
-    assert_eq!(rt; tested.broker.lowest_payer(), Some(2));
+    assert_eq!(rt; tested.plain.perform(ask(1)), Ok(Answer::Granted(slip)));
+    assert_eq!(rt; tested.broker().holding(1), Ok(1));
+    assert_eq!(rt; tested.broker().holding(2), Ok(2));
+    assert_eq!(rt; tested.broker().lowest_payer(), Some(2));
     tested.refuses(&[
         (start(7, 0), Refusal::PoolOutOfRange),
         (start(7, 3), Refusal::AlreadyStarted),

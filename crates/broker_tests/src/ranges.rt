@@ -8,7 +8,7 @@ use rules::{Answer, Quote, Refusal};
 fn units_and_frames_of_a_start(rt: HostRuntime) {
     for (unit, frames) in [(1, 1), (999, 4_096)] {
         let mut tested = Tested::new(&rt, SharePrice);
-        assert_eq!(rt; tested.broker.free_frames(), 0);
+        assert_eq!(rt; tested.broker().free_frames(), 0);
         tested.refuses(&[
             (start(0, 1), Refusal::PoolOutOfRange),
             (start(1_000, 1), Refusal::PoolOutOfRange),
@@ -24,7 +24,7 @@ fn units_and_frames_of_a_start(rt: HostRuntime) {
             (clock(5), Answer::Count(0)),
             (start(unit, frames), Answer::Done),
         ]);
-        assert_eq!(rt; tested.broker.free_frames(), frames);
+        assert_eq!(rt; tested.broker().free_frames(), frames);
         // the start leaves the clock
         tested.refuses(&[
             (start(1, 1), Refusal::AlreadyStarted),
@@ -73,7 +73,7 @@ fn terms_of_an_admission(rt: HostRuntime) {
         (256, None),
         (u32::MAX, None),
     ] {
-        assert_eq!(rt; tested.broker.next_client(after), next);
+        assert_eq!(rt; tested.broker().next_client(after), next);
     }
 }
 
@@ -127,8 +127,8 @@ fn questions_on_clients_and_counts(rt: HostRuntime) {
         (256, Ok(0)),
         (257, Err(Refusal::ClientOutOfRange)),
     ] {
-        assert_eq!(rt; tested.broker.proportional_share(client), share);
-        assert_eq!(rt; tested.broker.holding(client).err(), share.err());
+        assert_eq!(rt; tested.broker().proportional_share(client), share);
+        assert_eq!(rt; tested.broker().holding(client).err(), share.err());
     }
     for (client, count, refusal) in [
         (0, 0, Some(Refusal::ClientOutOfRange)),
@@ -139,14 +139,14 @@ fn questions_on_clients_and_counts(rt: HostRuntime) {
         (2, 1, None),
         (256, 4_096, None),
     ] {
-        assert_eq!(rt; tested.broker.price_at(client, count).err(), refusal);
+        assert_eq!(rt; tested.broker().price_at(client, count).err(), refusal);
     }
     let quote = Quote {
         class: 0,
         top: 300,
         bottom: 4_096,
     };
-    assert_eq!(rt; tested.broker.price_at(2, 4_096), Ok(quote));
+    assert_eq!(rt; tested.broker().price_at(2, 4_096), Ok(quote));
     tested.asks(&[
         (1, free(1)),
         (1, Err(Refusal::AtMaximum)),

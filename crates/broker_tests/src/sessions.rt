@@ -58,7 +58,7 @@ fn session_under_the_share_price(rt: HostRuntime) -> Result<(), Fail> {
         },
     ])?;
     tested.refuses(&[(ask(1), Refusal::Outbid)]);
-    assert_eq!(rt; tested.broker.free_frames(), 0);
+    assert_eq!(rt; tested.broker().free_frames(), 0);
     tested.holds(&[
         Held {
             client: 1,
@@ -149,7 +149,7 @@ fn runs_taxed_session<P: Price>(tested: &mut Tested<impl Abort, P>) -> Result<()
         (leave(3), Answer::Count(1)),
     ]);
     tested.refuses(&[(admit(3, 50, 2, 0, 5), Refusal::MaximumAboveFrames)]);
-    assert_eq!(tested.rt; tested.broker.free_frames(), 2);
+    assert_eq!(tested.rt; tested.broker().free_frames(), 2);
     tested.holds(&[
         Held {
             client: 1,
@@ -171,7 +171,7 @@ fn sessions_of_two_brokers_under_one_borrowed_price(rt: HostRuntime) -> Result<(
     let mut first = Tested::new(&rt, Borrowed { price: &price });
     let mut second = Tested::new(&rt, Borrowed { price: &price });
     runs_taxed_session(&mut first)?;
-    assert_eq!(rt; second.broker.free_frames(), 0);
+    assert_eq!(rt; second.broker().free_frames(), 0);
     runs_taxed_session(&mut second)
 }
 

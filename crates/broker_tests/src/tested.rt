@@ -1,6 +1,6 @@
 //! A broker under test: rows of calls, with what each must give.
 use crate::calls::ask;
-use broker::Broker;
+use broker::{Broker, PlainBroker};
 use price::Price;
 use rules::{Answer, Call, Quote, Refusal};
 use std::process::Abort;
@@ -64,41 +64,46 @@ struct Shown {
     clients: [ClientShown; 4],
 }
 
-/// A broker, and the runtime that a failed assertion ends by.
+/// A broker that takes plain calls, and the runtime that a failed assertion ends by.
 #[derive(Drop)]
 pub struct Tested<'a, R: Abort, P: Price> {
     pub rt: &'a R,
-    pub broker: Broker<P>,
+    pub plain: PlainBroker<P>,
 }
 
 impl<'a, R: Abort, P: Price> Tested<'a, R, P> {
     pub fn new(rt: &'a R, price: P) -> Self {
         Tested {
             rt,
-            broker: Broker::new(price),
+            plain: PlainBroker::new(price),
         }
+    }
+
+    /// The broker, for questions.
+    pub fn broker(&self) -> &Broker<P> {
+        self.plain.broker()
     }
 
     /// Makes each call, which is accepted, and compares its answer.
     pub fn answers(&mut self, rows: &[(Call, Answer)]) {
         for (call, answer) in rows {
-            assert_eq!(self.rt; self.broker.perform(*call), Ok(*answer));
+            assert_eq!(self.rt; self.plain.perform(*call), Ok(*answer));
         }
     }
 
     fn client_shown(&self, client: u32) -> ClientShown {
         ClientShown {
-            holding: self.broker.holding(client),
-            share: self.broker.proportional_share(client),
-            price: self.broker.price_at(client, 1),
-            next: self.broker.next_client(client),
+            holding: self.broker().holding(client),
+            share: self.broker().proportional_share(client),
+            price: self.broker().price_at(client, 1),
+            next: self.broker().next_client(client),
         }
     }
 
     fn shown(&self) -> Shown {
         Shown {
-            free: self.broker.free_frames(),
-            lowest: self.broker.lowest_payer(),
+            free: self.broker().free_frames(),
+            lowest: self.broker().lowest_payer(),
             clients: [0, 1, 2, 256].map(|client| self.client_shown(client)),
         }
     }
@@ -107,7 +112,7 @@ impl<'a, R: Abort, P: Price> Tested<'a, R, P> {
     pub fn refuses(&mut self, rows: &[(Call, Refusal)]) {
         let before = self.shown();
         for (call, refusal) in rows {
-            assert_eq!(self.rt; self.broker.perform(*call), Err(*refusal));
+            assert_eq!(self.rt; self.plain.perform(*call), Err(*refusal));
             assert_eq!(self.rt; self.shown(), before);
         }
     }
@@ -115,10 +120,10 @@ impl<'a, R: Abort, P: Price> Tested<'a, R, P> {
     /// Makes the ask of each client, and compares what the client gets. Each slip is delivered at once.
     pub fn asks(&mut self, rows: &[(u32, Result<Got, Refusal>)]) {
         for (client, outcome) in rows {
-            let answer = self.broker.perform(ask(*client));
+            let answer = self.plain.perform(ask(*client));
             if let Ok(Answer::Granted(slip)) = answer {
                 assert_eq!(self.rt;
-                    self.broker.perform(Call::Deliver { slip }),
+                    self.plain.perform(Call::Deliver { slip }),
                     Ok(Answer::Done)
                 );
             }
@@ -137,17 +142,17 @@ impl<'a, R: Abort, P: Price> Tested<'a, R, P> {
     pub fn grants(&mut self, rows: &[Grant]) -> Result<(), Fail> {
         for row in rows {
             if let Some(Loss { from, over }) = row.loss {
-                assert_eq!(self.rt; self.broker.lowest_payer(), Some(from));
-                let held = self.broker.holding(from)?;
-                assert_eq!(self.rt; self.broker.price_at(from, held), Ok(over));
+                assert_eq!(self.rt; self.broker().lowest_payer(), Some(from));
+                let held = self.broker().holding(from)?;
+                assert_eq!(self.rt; self.broker().price_at(from, held), Ok(over));
             }
             let got = Got {
                 frame: row.frame,
                 former: row.loss.map_or(0, |loss| loss.from),
             };
             self.asks(&[(row.client, Ok(got))]);
-            let holding = self.broker.holding(row.client)?;
-            assert_eq!(self.rt; self.broker.price_at(row.client, holding), Ok(row.paying));
+            let holding = self.broker().holding(row.client)?;
+            assert_eq!(self.rt; self.broker().price_at(row.client, holding), Ok(row.paying));
         }
         Ok(())
     }
@@ -155,9 +160,9 @@ impl<'a, R: Abort, P: Price> Tested<'a, R, P> {
     /// Compares what each client holds, and its price there.
     pub fn holds(&self, rows: &[Held]) {
         for row in rows {
-            assert_eq!(self.rt; self.broker.holding(row.client), Ok(row.holding));
+            assert_eq!(self.rt; self.broker().holding(row.client), Ok(row.holding));
             assert_eq!(self.rt;
-                self.broker.price_at(row.client, row.holding),
+                self.broker().price_at(row.client, row.holding),
                 Ok(row.price)
             );
         }
