@@ -19,7 +19,6 @@ impl<K: Order + Copy, const N: usize> IndexedHeap<K, N> {
     ghost use Rattle.heap.specs.Indexed.{keys_in};
 
     /// Nobody is in yet. Each record needs a key from the start; this one is never returned.
-    #[tactic(auto, using(crate::proofs::Members::reads))]
     pub fn new(unused: K) -> IndexedHeap<K, N>
         ensures { (o : ℕ) → keys_in result o ≡ None }
     {

@@ -48,7 +48,6 @@ pub fn contains<K: Order>(records: &[Record<K>], count: usize, owner: usize) -> 
 }
 
 /// Gives an owner this key, whether or not it was in, and returns how many are in then.
-#[tactic(auto, using(crate::proofs::Members::reads))]
 pub fn put<K: Order + Drop>(records: &mut [Record<K>], count: usize, owner: usize, key: K) -> usize
     requires { Heap K.Order.leads records.old count × (owner < length records.old) }
     ensures { Changed K.Order.leads records.old count records.new result owner (Some key) }
