@@ -4,7 +4,6 @@ use mathlib.Core.Path.{fun_ext}
 use lib.ListN.{length-reverse}
 use Rattle.std.proofs.lemmas.Option.{same_Some}
 use Rattle.rules.specs.declared.offer.Terms.{Terms}
-use Rattle.rules.specs.declared.call.Call.TheVariants.{Start, Admit}
 use Rattle.rules.specs.declared.refusal.Refusal.{Refusal}
 use Rattle.rules.specs.declared.refusal.Refusal.TheVariants.{PoolOutOfRange, ClientOutOfRange, SharesOutOfRange, ClassOutOfRange, MaximumOutOfRange, AlreadyStarted, AlreadyAdmitted, MaximumAboveFrames, MinimumsAboveFrames}
 use Rattle.rules.specs.Offers.{Meaning}
@@ -13,7 +12,7 @@ use Rattle.rules.proofs.Named.{When}
 use Rattle.laws.specs.ByNumber.{total, Numbered, put}
 use Rattle.laws.specs.Division.{Clients, Admissible, terms}
 use Rattle.laws.specs.Broker.{Broker, Client, new_broker, terms_of, stack_of}
-use Rattle.laws.specs.Calls.{Admission, IsClear, entries, newcomer, numbers, with_stack}
+use Rattle.laws.specs.Calls.{Start, Admit, Admission, IsClear, entries, newcomer, numbers, with_stack}
 use Rattle.laws.proofs.Sums.{upto_zero}
 use Rattle.laws.proofs.Puts.{put_off, put_each, put_sum}
 use Rattle.laws.proofs.Refused.{denied}

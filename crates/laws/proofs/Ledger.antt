@@ -4,16 +4,13 @@ use mathlib.Core.List.{reverse_aux, reverse_aux-eq}
 use Rattle.std.specs.Prelude.{count_by}
 use Rattle.std.proofs.lemmas.Bool.Decides.{nat_tests}
 use Rattle.std.proofs.lemmas.List.Sums.{sum_by-cons, count_by-le-length}
-use Rattle.rules.specs.declared.call.Call.{Call}
-use Rattle.rules.specs.declared.call.Call.TheVariants.{Start, Admit}
-use Rattle.rules.specs.declared.call.Answer.{Answer}
 use Rattle.rules.specs.declared.refusal.Refusal.{Refusal}
 use Rattle.rules.specs.declared.refusal.Refusal.TheVariants.{ClientOutOfRange, AlreadyStarted, AlreadyAdmitted}
 use Rattle.rules.specs.Offers.{Meaning, Lawful}
 use Rattle.laws.specs.ByNumber.{total, Numbered, put}
 use Rattle.laws.specs.Broker.{Broker, Client, new_broker, holding, stack_of}
 use Rattle.laws.specs.Calls
-use Rattle.laws.specs.Calls.{Effect, Step, IsClear, newcomer, numbers, with_stack}
+use Rattle.laws.specs.Calls.{Call, Start, Admit, Answer, Effect, Step, IsClear, newcomer, numbers, with_stack}
 use Rattle.laws.specs.Histories.{Event, Run, start, then}
 use Rattle.laws.specs.Laws.{FramesLieOnce}
 use Rattle.laws.proofs.Sums.{upto_same, upto_le, upto_zero}
