@@ -3,19 +3,15 @@ use Rattle.std.proofs.Common.{◌≡◌, ℕ, ◌+◌, ◌<◌, true, ◌⊎◌,
 use mathlib.Core.Bool.{Bool-discrete}
 use mathlib.Core.Logic.Dec
 use native.Mathlib.Decide.{ℕ_discrete, dec_le, dec_lt, map_dec}
-use Rattle.rules.specs.declared.call.SlipNumbers.{SlipNumbers}
-use Rattle.rules.specs.declared.call.Call.{Call}
-use Rattle.rules.specs.declared.call.Call.TheVariants.{Start, Admit, Ask, Deliver, HandBack, Leave, SetEstimate, SetClock}
-use Rattle.rules.specs.declared.call.Answer.{Answer}
 use Rattle.rules.specs.declared.refusal.Refusal.{Refusal}
 use Rattle.rules.specs.declared.refusal.Refusal.TheVariants.{NotAdmitted, Outbid, HoldsNoFrame}
 use Rattle.rules.specs.Offers.{Meaning, Lawful}
 use Rattle.rules.specs.Rank.{above}
 use Rattle.rules.specs.Refusals.{Entry, First, Clear, Outside}
 use Rattle.laws.specs.Division.{minimum_of, bid_of}
-use Rattle.laws.specs.Broker.{Broker, holding, present, MayTake, IsOutbid}
+use Rattle.laws.specs.Broker.{SlipNumbers, Broker, holding, present, MayTake, IsOutbid}
 use Rattle.laws.specs.Calls
-use Rattle.laws.specs.Calls.{Effect, Step, IsClear, entries}
+use Rattle.laws.specs.Calls.{Call, Start, Admit, Ask, Deliver, HandBack, Leave, SetEstimate, SetClock, Answer, Effect, Step, IsClear, entries}
 use Rattle.laws.specs.Questions.{LowestIs}
 use Rattle.laws.specs.Laws.{EveryCallIsAnswered, LowestPayerIsFound}
 use Rattle.laws.proofs.Sums.{below_or_not}

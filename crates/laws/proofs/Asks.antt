@@ -1,8 +1,5 @@
 -- In a stretch that accepts nothing but asks and deliveries, the accepted asks are bounded.
 use Rattle.std.proofs.Common.{◌≡◌, ℕ, ◌+◌, ◌<◌, ◌≤◌, true, false, ◌⊎◌, List, ◌∷◌, ◌++◌, length, Some, sym, refl, ap, ◌∙◌, subst, arith, Result}
-use Rattle.rules.specs.declared.call.Call.{Call}
-use Rattle.rules.specs.declared.call.Call.TheVariants.{Ask}
-use Rattle.rules.specs.declared.call.Answer.{Answer}
 use Rattle.rules.specs.declared.refusal.Refusal.{Refusal}
 use Rattle.rules.specs.Offers.{Meaning, Lawful}
 use Rattle.rules.specs.Rank.{above}
@@ -10,7 +7,7 @@ use Rattle.laws.specs.ByNumber.{total, put}
 use Rattle.laws.specs.Division.{Clients, terms, minimum_of, bid_of}
 use Rattle.laws.specs.Broker.{Broker, new_broker, present, holding, maximum_of, MayTake}
 use Rattle.laws.specs.Calls
-use Rattle.laws.specs.Calls.{Step, IsClear, with_stack}
+use Rattle.laws.specs.Calls.{Call, Ask, Answer, Step, IsClear, with_stack}
 use Rattle.laws.specs.Histories.{Event, event, Run, start, then, reached, grants, IsAccepted, AskOrDelivery, AcceptsOnlyAsks}
 use Rattle.laws.specs.Guarantees.{room}
 use Rattle.laws.proofs.Sums.{upto_le, upto_minus}

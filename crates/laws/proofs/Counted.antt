@@ -1,13 +1,11 @@
 -- The count of asks is that of the asks accepted.
 use Rattle.std.proofs.Common.{◌≡◌, ℕ, ◌+◌, ◌%◌, ◌^◌, refl, ap, ◌∙◌, arith, Result}
 use Rattle.std.proofs.Math.Nat.{mod-add-mod}
-use Rattle.rules.specs.declared.call.Call.{Call}
-use Rattle.rules.specs.declared.call.Answer.{Answer}
 use Rattle.rules.specs.declared.refusal.Refusal.{Refusal}
 use Rattle.rules.specs.Offers.{Meaning}
 use Rattle.laws.specs.Broker.{Broker}
 use Rattle.laws.specs.Calls
-use Rattle.laws.specs.Calls.{Step}
+use Rattle.laws.specs.Calls.{Call, Answer, Step}
 use Rattle.laws.specs.Histories.{start, then, grant, grants}
 use Rattle.laws.specs.Laws.{AsksAreCounted}
 

@@ -4,14 +4,12 @@ use Rattle.std.specs.Prelude.{count_by}
 use Rattle.std.proofs.lemmas.Bool.{eq-eqb, ne_eqb}
 use Rattle.std.proofs.lemmas.Bool.Decides.{nat_tests}
 use Rattle.std.proofs.lemmas.List.Sums.{sum_by-cons}
-use Rattle.rules.specs.declared.call.Call.{Call}
-use Rattle.rules.specs.declared.call.Answer.{Answer}
 use Rattle.rules.specs.declared.refusal.Refusal.{Refusal}
 use Rattle.rules.specs.Offers.{Meaning, Lawful}
 use Rattle.laws.specs.ByNumber.{put}
 use Rattle.laws.specs.Broker.{Broker, Client, holding}
 use Rattle.laws.specs.Calls
-use Rattle.laws.specs.Calls.{Step, newcomer, with_stack, with_estimate}
+use Rattle.laws.specs.Calls.{Call, Answer, Step, newcomer, with_stack, with_estimate}
 use Rattle.laws.specs.Histories.{event, start, then}
 use Rattle.laws.specs.Tallies.{comes_or_goes, since, slip_to, slip_from, hands_back, gained, lost, returned}
 use Rattle.laws.specs.Laws.{HoldingsAddUp}

@@ -1,10 +1,11 @@
 -- What every step keeps: holdings and free frames are all frames, the minimums fit, and each client is within its terms.
-use Rattle.std.proofs.Common.{◌≡◌, ℕ, zero, suc, ◌+◌, ◌<◌, ◌≤◌, ◌≢◌, List, [], ◌∷◌, ◌++◌, reverse, length, Some, None, Option, sym, refl, ap, ◌∙◌, subst, inl, inr, arith, length-append}
+use Rattle.std.proofs.Common.{◌≡◌, ℕ, ◌+◌, ◌<◌, ◌≤◌, ◌≢◌, List, [], ◌∷◌, ◌++◌, reverse, length, Some, None, Option, sym, refl, ap, ◌∙◌, subst, inl, inr, arith, length-append}
 use mathlib.Core.Path.{fun_ext}
 use lib.ListN.{length-reverse}
+use Rattle.std.specs.List.{range_with_len}
+use Rattle.std.proofs.lemmas.List.FromFn.{length-range_with_len}
 use Rattle.std.proofs.lemmas.Option.{same_Some}
 use Rattle.rules.specs.declared.offer.Terms.{Terms}
-use Rattle.rules.specs.declared.call.Call.TheVariants.{Start, Admit}
 use Rattle.rules.specs.declared.refusal.Refusal.{Refusal}
 use Rattle.rules.specs.declared.refusal.Refusal.TheVariants.{PoolOutOfRange, ClientOutOfRange, SharesOutOfRange, ClassOutOfRange, MaximumOutOfRange, AlreadyStarted, AlreadyAdmitted, MaximumAboveFrames, MinimumsAboveFrames}
 use Rattle.rules.specs.Offers.{Meaning}
@@ -13,7 +14,7 @@ use Rattle.rules.proofs.Named.{When}
 use Rattle.laws.specs.ByNumber.{total, Numbered, put}
 use Rattle.laws.specs.Division.{Clients, Admissible, terms}
 use Rattle.laws.specs.Broker.{Broker, Client, new_broker, terms_of, stack_of}
-use Rattle.laws.specs.Calls.{Admission, IsClear, entries, newcomer, numbers, with_stack}
+use Rattle.laws.specs.Calls.{Start, Admit, Admission, IsClear, entries, newcomer, with_stack}
 use Rattle.laws.proofs.Sums.{upto_zero}
 use Rattle.laws.proofs.Puts.{put_off, put_each, put_sum}
 use Rattle.laws.proofs.Refused.{denied}
@@ -83,18 +84,13 @@ pub same_terms : (cs : ℕ → Option Client) (c : ℕ) (x : Client) (fs : List 
     ◌≡◌ {A = Clients} (λ q. terms_of (put cs c (Some (with_stack x fs)) q)) (λ q. terms_of (cs q))
 same_terms cs c x fs e = fun_ext (put_each cs c (Some (with_stack x fs)) (λ q o. terms_of o ≡ terms_of (cs q)) (sym (ap terms_of e)) (λ q ne. refl))
 
-length_numbers : (i n : ℕ) → length (numbers i n) ≡ n
-unfolding numbers
-length_numbers i zero = refl
-length_numbers i (suc n) = omega (arith, length_numbers (suc i) n)
-
-pub started_kept : (m : Meaning) (b : Broker) (u F : ℕ) → Kept b → IsClear m b (Start u F) → Pool F (length (numbers 1 F)) b.clients
+pub started_kept : (m : Meaning) (b : Broker) (u F : ℕ) → Kept b → IsClear m b (Start u F) → Pool F (length (range_with_len 1 F)) b.clients
 started_kept m b u F k clear =
     let i = inside 1 4_096 F (λ h. denied m b (Start u F) PoolOutOfRange clear (inl h)) in
     let new = denied m b (Start u F) AlreadyStarted clear in
     record {
       small = omega (arith, i);
-      all = omega (arith, k.all, length_numbers 1 F, new);
+      all = omega (arith, k.all, length-range_with_len 1 F, new);
       room = omega (arith, k.room, new);
       each_fits = λ c. let f = k.each_fits c in record { fits = f.fits; order = f.order; within = omega (arith, f.within, new); sound = f.sound };
     }

@@ -2,18 +2,16 @@
 use Rattle.std.proofs.Common.{◌≡◌, ℕ, zero, suc, ◌+◌, ◌≤◌, cond, eqb, leb, List, [], ◌∷◌, ◌++◌, reverse, Some, None, Option, sym, refl, ap, ◌∙◌, subst, arith, Result}
 use mathlib.Core.List.{reverse_aux, reverse_aux-eq}
 use Rattle.std.specs.Prelude.{count_by}
+use Rattle.std.specs.List.{range_with_len}
 use Rattle.std.proofs.lemmas.Bool.Decides.{nat_tests}
 use Rattle.std.proofs.lemmas.List.Sums.{sum_by-cons, count_by-le-length}
-use Rattle.rules.specs.declared.call.Call.{Call}
-use Rattle.rules.specs.declared.call.Call.TheVariants.{Start, Admit}
-use Rattle.rules.specs.declared.call.Answer.{Answer}
 use Rattle.rules.specs.declared.refusal.Refusal.{Refusal}
 use Rattle.rules.specs.declared.refusal.Refusal.TheVariants.{ClientOutOfRange, AlreadyStarted, AlreadyAdmitted}
 use Rattle.rules.specs.Offers.{Meaning, Lawful}
 use Rattle.laws.specs.ByNumber.{total, Numbered, put}
 use Rattle.laws.specs.Broker.{Broker, Client, new_broker, holding, stack_of}
 use Rattle.laws.specs.Calls
-use Rattle.laws.specs.Calls.{Effect, Step, IsClear, newcomer, numbers, with_stack}
+use Rattle.laws.specs.Calls.{Call, Start, Admit, Answer, Effect, Step, IsClear, newcomer, with_stack}
 use Rattle.laws.specs.Histories.{Event, Run, start, then}
 use Rattle.laws.specs.Laws.{FramesLieOnce}
 use Rattle.laws.proofs.Sums.{upto_same, upto_le, upto_zero}
@@ -33,10 +31,9 @@ times_back : (f : ℕ) (xs ys : List ℕ) → times f (reverse_aux xs ys) ≡ ti
 times_back f [] ys = omega arith
 times_back f (x ∷ xs) ys = omega (arith, times_back f xs (x ∷ ys), times_cons f x xs, times_cons f x ys)
 
-times_numbers : (f i n : ℕ) → times f (numbers i n) ≡ cond (leb i f) (cond (leb f (i + n)) (cond (eqb f (i + n)) 0 1) 0) 0
-unfolding numbers
-times_numbers f i zero = grind (arith, nat_tests)
-times_numbers f i (suc n) = times_cons f i (numbers (suc i) n) ∙ let h = times_numbers f (suc i) n in grind (arith, nat_tests)
+times_row : (f i n : ℕ) → times f (range_with_len i n) ≡ cond (leb i f) (cond (leb f (i + n)) (cond (eqb f (i + n)) 0 1) 0) 0
+times_row f i zero = grind (arith, nat_tests)
+times_row f i (suc n) = times_cons f i (range_with_len (i + 1) n) ∙ let h = times_row f (i + 1) n in grind (arith, nat_tests)
 
 abbrev here : ℕ → Option Client → ℕ
 here f o = times f (stack_of o)
@@ -80,7 +77,7 @@ module _ (m : Meaning) (l : Lawful m) (f : ℕ) (b : Broker) (k : Kept b) (o : l
       let z : 1 ≤ b.frames → ⊥ = denied m b (Start u F) AlreadyStarted clear in
       let s = upto_le 256 (λ c. here f (b.clients c)) (holding b) (λ c i. count_by-le-length (λ g. eqb f g) (stack_of (b.clients c))) in
       let n : total (λ c. here f (b.clients c)) ≡ 0 = omega (arith, k.all) in
-      let t = times_numbers f 1 F in
+      let t = times_row f 1 F in
       grind (arith, nat_tests)
   step_once x a d (Calls.accepted clear (Calls.admitted {a = q})) =
       lies_put f b.free b.free b.clients q.client (Some (newcomer q)) (inside 1 256 q.client (denied m b (Admit q) ClientOutOfRange clear))

@@ -1,7 +1,5 @@
 -- A call has one answer, and leaves one broker.
 use Rattle.std.proofs.Common.{◌≡◌, ℕ, ◌⊎◌, List, [], ◌∷◌, sym, refl, ap, ◌∙◌, inl, inr, arith, Ok, Err, Result}
-use Rattle.rules.specs.declared.call.Call.{Call}
-use Rattle.rules.specs.declared.call.Answer.{Answer}
 use Rattle.rules.specs.declared.refusal.Refusal.{Refusal}
 use Rattle.rules.specs.Offers.{Meaning}
 use Rattle.rules.specs.Refusals.{Entry, First, Clear}
@@ -9,7 +7,7 @@ use Rattle.rules.proofs.Ranked.{decided}
 use Rattle.laws.specs.Division.{bid_of}
 use Rattle.laws.specs.Broker.{Broker, holding, present, LowestPayer}
 use Rattle.laws.specs.Calls
-use Rattle.laws.specs.Calls.{Effect, Step, IsClear, RefusedBy, entries}
+use Rattle.laws.specs.Calls.{Call, Answer, Effect, Step, IsClear, RefusedBy, entries}
 use Rattle.laws.specs.Laws.{OneAnswer}
 
 pub one_first : (es : List Entry) (r q : Refusal) → First es r → First es q → r ≡ q

@@ -1,16 +1,12 @@
 -- A passage is open exactly from an accepted ask to the delivery of its slip.
 use Rattle.std.proofs.Common.{◌≡◌, ℕ, ◌<◌, List, ◌∷◌, Some, None, refl, ap, inl, inr, sym, ◌∙◌, arith, Ok, Result}
 use Rattle.std.proofs.lemmas.Option.{same_Some}
-use Rattle.rules.specs.declared.call.SlipNumbers.{SlipNumbers}
-use Rattle.rules.specs.declared.call.Call.{Call}
-use Rattle.rules.specs.declared.call.Call.TheVariants.{Start, Admit, Ask, Deliver, HandBack, Leave, SetEstimate, SetClock}
-use Rattle.rules.specs.declared.call.Answer.{Answer}
 use Rattle.rules.specs.declared.refusal.Refusal.{Refusal}
 use Rattle.rules.specs.declared.refusal.Refusal.TheVariants.{AlreadyStarted, PassageOpen, NotTheOpenSlip}
 use Rattle.rules.specs.Offers.{Meaning, Lawful}
-use Rattle.laws.specs.Broker.{Broker, new_broker, holding, maximum_of}
+use Rattle.laws.specs.Broker.{SlipNumbers, Broker, new_broker, holding, maximum_of}
 use Rattle.laws.specs.Calls
-use Rattle.laws.specs.Calls.{Step, IsClear}
+use Rattle.laws.specs.Calls.{Call, Start, Admit, Ask, Deliver, HandBack, Leave, SetEstimate, SetClock, Answer, Step, IsClear}
 use Rattle.laws.specs.Histories.{Event, event, Run, start, then}
 use Rattle.laws.specs.Tallies.{AskedLast}
 use Rattle.laws.specs.Laws.{PassagesFollowAsks}

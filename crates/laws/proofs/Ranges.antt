@@ -2,17 +2,13 @@
 use Rattle.std.proofs.Common.{◌≡◌, ℕ, ◌^◌, ◌<◌, ◌≤◌, ◌⊎◌, List, Some, None, Option, refl, subst, inl, inr, arith, Result}
 use Rattle.std.proofs.lemmas.Bool.Decides.{nat_tests}
 use Rattle.std.proofs.lemmas.Option.{same_Some}
-use Rattle.rules.specs.declared.call.Estimate.{Estimate}
-use Rattle.rules.specs.declared.call.Call.{Call}
-use Rattle.rules.specs.declared.call.Call.TheVariants.{Start, Admit, SetEstimate}
-use Rattle.rules.specs.declared.call.Answer.{Answer}
 use Rattle.rules.specs.declared.refusal.Refusal.{Refusal}
 use Rattle.rules.specs.declared.refusal.Refusal.TheVariants.{PoolOutOfRange, MaximumOutOfRange, AlreadyStarted, ActiveAboveFrames, EndNotAfterClock}
 use Rattle.rules.specs.Offers.{Meaning}
 use Rattle.laws.specs.ByNumber.{put}
-use Rattle.laws.specs.Broker.{Broker, Client, new_broker}
+use Rattle.laws.specs.Broker.{Estimate, Broker, Client, new_broker}
 use Rattle.laws.specs.Calls
-use Rattle.laws.specs.Calls.{Step, lasting, lasts}
+use Rattle.laws.specs.Calls.{Call, Start, Admit, SetEstimate, Answer, Step, lasting, lasts}
 use Rattle.laws.specs.Histories.{Event, Run, start, then, Each}
 use Rattle.laws.specs.Ranges.{TickFits}
 use Rattle.laws.specs.Laws.{BrokersStayInRange}

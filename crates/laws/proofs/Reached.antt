@@ -1,18 +1,13 @@
 -- Rest is reached: accepted asks end, and once each client has asked again the broker is at rest.
 use Rattle.std.proofs.Common.{◌≡◌, ℕ, zero, suc, ◌+◌, ◌<◌, ◌≤◌, ◌⊎◌, List, [], ◌∷◌, ◌++◌, Some, None, Option, sym, refl, ap, ◌∙◌, subst, inl, inr, append_assoc, arith, Ok, Err, Result}
 use Rattle.std.proofs.lemmas.Bool.{cases_eq}
-use Rattle.rules.specs.declared.call.SlipNumbers.{SlipNumbers}
-use Rattle.rules.specs.declared.call.Call.{Call}
-use Rattle.rules.specs.declared.call.Call.TheVariants.{Ask, Deliver}
-use Rattle.rules.specs.declared.call.Answer.{Answer}
-use Rattle.rules.specs.declared.call.Answer.TheVariants.{Done}
 use Rattle.rules.specs.declared.refusal.Refusal.{Refusal}
 use Rattle.rules.specs.declared.refusal.Refusal.TheVariants.{AtMaximum, Outbid}
 use Rattle.rules.specs.Offers.{Meaning, Lawful}
 use Rattle.laws.specs.ByNumber.{Numbered}
-use Rattle.laws.specs.Broker.{Broker, Client, new_broker}
+use Rattle.laws.specs.Broker.{SlipNumbers, Broker, Client, new_broker}
 use Rattle.laws.specs.Calls
-use Rattle.laws.specs.Calls.{Step, RefusedBy, IsClear, entries}
+use Rattle.laws.specs.Calls.{Call, Ask, Deliver, Answer, Done, Step, RefusedBy, IsClear, entries}
 use Rattle.laws.specs.Histories.{Event, event, Run, start, then, Each, grant, grants, IsRefused, AcceptsOnlyAsks, TurnsAway, TurnedAway, AtRest}
 use Rattle.laws.specs.Guarantees.{room}
 use Rattle.laws.specs.Laws.{Asked, RestIsReached}

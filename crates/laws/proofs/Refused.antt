@@ -1,13 +1,12 @@
 -- The refusals of calls, cited by name.
 use Rattle.std.proofs.Common.{◌<◌, arith}
-use Rattle.rules.specs.declared.call.Call.{Call}
 use Rattle.rules.specs.declared.refusal.Refusal.{Refusal}
 use Rattle.rules.specs.Numbers.{place}
 use Rattle.rules.specs.Offers.{Meaning}
 use Rattle.rules.specs.Refusals.{Rising}
 use Rattle.rules.proofs.Named.{When, cleared, met, unmet}
 use Rattle.laws.specs.Broker.{Broker}
-use Rattle.laws.specs.Calls.{IsClear, RefusedBy, entries}
+use Rattle.laws.specs.Calls.{Call, IsClear, RefusedBy, entries}
 
 module _ (m : Meaning) (b : Broker) where
   rises : (x : Call) → Rising (entries m b x)

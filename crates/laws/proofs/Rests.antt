@@ -1,14 +1,11 @@
 -- At rest the holdings are the settled division, and the only one.
 use Rattle.std.proofs.Common.{◌≡◌, ℕ, ◌≤◌, ◌⊎◌, List, ◌++◌, length, Some, None, Option, refl, ap, subst, inl, inr, arith, Err, Result}
-use Rattle.rules.specs.declared.call.Call.{Call}
-use Rattle.rules.specs.declared.call.Call.TheVariants.{Ask}
-use Rattle.rules.specs.declared.call.Answer.{Answer}
 use Rattle.rules.specs.declared.refusal.Refusal.TheVariants.{NotAdmitted, AtMaximum, Outbid}
 use Rattle.rules.specs.declared.refusal.Refusal.{Refusal}
 use Rattle.rules.specs.Offers.{Meaning, Lawful}
 use Rattle.laws.specs.Division.{Settled, capped, minimum_of}
 use Rattle.laws.specs.Broker.{Broker, Client, new_broker, present, holding, maximum_of, IsOutbid}
-use Rattle.laws.specs.Calls.{Step, RefusedBy, Absent}
+use Rattle.laws.specs.Calls.{Call, Ask, Answer, Step, RefusedBy, Absent}
 use Rattle.laws.specs.Histories.{Event, event, Run, start, then, reached, TurnsAway, TurnedAway, AtRest}
 use Rattle.laws.specs.Guarantees.{RestsSettled}
 use Rattle.laws.proofs.Unique.{division_is_unique}

@@ -1,14 +1,11 @@
 -- Runs: what holds at each of their brokers, and how they are cut and joined.
 use Rattle.std.proofs.Common.{◌≡◌, ℕ, ◌<◌, ◌≤◌, ◌≢◌, List, [], ◌∷◌, ◌++◌, length, sym, refl, subst, arith, Ok, Err, Result}
-use Rattle.rules.specs.declared.call.Call.{Call}
-use Rattle.rules.specs.declared.call.Call.TheVariants.{Ask}
-use Rattle.rules.specs.declared.call.Answer.{Answer}
 use Rattle.rules.specs.declared.refusal.Refusal.{Refusal}
 use Rattle.rules.specs.Offers.{Meaning, Lawful}
 use Rattle.laws.specs.Division.{AllAdmissible, capped}
 use Rattle.laws.specs.Broker.{Broker, new_broker, present, holding, maximum_of, MayTake}
 use Rattle.laws.specs.Calls
-use Rattle.laws.specs.Calls.{Effect, Step, IsClear, RefusedBy}
+use Rattle.laws.specs.Calls.{Call, Ask, Answer, Effect, Step, IsClear, RefusedBy}
 use Rattle.laws.specs.Histories.{Event, Run, start, then, reached, IsRefused}
 use Rattle.laws.proofs.Contest.{Contest}
 use Rattle.laws.proofs.Unique.{contest}

@@ -2,9 +2,6 @@
 use Rattle.std.proofs.Common.{◌≡◌, ℕ, ◌+◌, ◌*◌, ◌/◌, ◌<◌, ◌≤◌, min, true, ◌≢◌, ◌⊎◌, List, [], ◌∷◌, ◌++◌, length, Some, None, Option, sym, refl, ap, ◌∙◌, subst, inl, inr, lt_of_mul-lt-mul_right, div-mul-le_self, arith, Result}
 use Rattle.std.proofs.lemmas.Bool.{cases_lt}
 use Rattle.std.proofs.lemmas.Bool.Decides.{nat_tests}
-use Rattle.rules.specs.declared.call.Call.{Call}
-use Rattle.rules.specs.declared.call.Call.TheVariants.{Admit, HandBack, Leave}
-use Rattle.rules.specs.declared.call.Answer.{Answer}
 use Rattle.rules.specs.declared.refusal.Refusal.{Refusal}
 use Rattle.rules.specs.declared.refusal.Refusal.TheVariants.{AlreadyAdmitted}
 use Rattle.rules.specs.Offers.{Meaning, Lawful}
@@ -14,7 +11,7 @@ use Rattle.laws.specs.ByNumber.{total, put}
 use Rattle.laws.specs.Division.{Clients, terms, minimum_of, capped, bid_of}
 use Rattle.laws.specs.Broker.{Broker, Client, new_broker, present, holding, maximum_of, shares_of, all_shares, share_of, MinimumsWithin, MayTake}
 use Rattle.laws.specs.Calls
-use Rattle.laws.specs.Calls.{Step, Absent, newcomer, with_stack}
+use Rattle.laws.specs.Calls.{Call, Admit, HandBack, Leave, Answer, Step, Absent, newcomer, with_stack}
 use Rattle.laws.specs.Histories.{Event, event, Run, start, then, reached, Each, Throughout, smallest, TurnsAway, Keeps}
 use Rattle.laws.specs.Guarantees.{TellsShare}
 use Rattle.laws.proofs.Puts.{put_off, put_each}

@@ -15,7 +15,6 @@
 -- entries          the refusals that a call can meet
 -- RefusedBy        the call is refused, for this reason
 -- IsClear          the call meets no refusal: it is accepted
--- numbers          so many numbers in a row from one on: the free stack of a new pool, frame 1 on top
 -- newcomer         the client that an admission makes: it has no frame and no estimate
 -- with_stack, with_estimate   a client with another stack, with another estimate
 -- moved            the broker with another free stack and other clients
@@ -26,7 +25,8 @@
 -- answered         what a call is answered whose accepted value is told by an answer word
 -- Effect           an accepted call on a broker, what it is answered, and the broker after it
 -- Step             a call on a broker, refused or accepted, what it is answered, and the broker after it
-use Rattle.std.specs.Prelude.{◌≡◌, ℕ, zero, suc, ◌+◌, ◌%◌, ◌^◌, ◌<◌, ◌≤◌, cond, ◌⊎◌, List, [], ◌∷◌, ◌++◌, reverse, length, Some, None, Ok, Err, Option, Result, ◌≢◌, nat_le}
+use Rattle.std.specs.Prelude.{◌≡◌, ℕ, ◌+◌, ◌%◌, ◌^◌, ◌<◌, ◌≤◌, cond, ◌⊎◌, List, [], ◌∷◌, ◌++◌, reverse, length, Some, None, Ok, Err, Option, Result, ◌≢◌, nat_le}
+use Rattle.std.specs.List.{range_with_len}
 use Rattle.std.specs.Result.{result_map_both}
 pub use Rattle.rules.specs.declared.call.Admission.{Admission}
 pub use Rattle.rules.specs.declared.call.Call.{Call}
@@ -110,10 +110,6 @@ RefusedBy m b x r = First (entries m b x) r
 abbrev pub IsClear : Meaning → Broker → Call → Type 0
 IsClear m b x = Clear (entries m b x)
 
-unfoldable pub numbers : ℕ → ℕ → List ℕ
-numbers i zero = []
-numbers i (suc n) = i ∷ numbers (suc i) n
-
 abbrev pub newcomer : Admission → Client
 newcomer a =
     record { shares = a.shares; class = a.class; minimum = a.minimum; maximum = a.maximum; estimate = None; stack = [] }
@@ -155,8 +151,8 @@ answered word result = result_map_both word (λ r. r) result
 
 -- What an accepted call does, and what it is answered. Whether it is accepted is for `Step` to say.
 pub data Effect (m : Meaning) (b : Broker) : Call → Answer → Broker → Type 0 where
-  -- a start gives the broker its unit number and its frames
-  started : {u F : ℕ} → Effect m b (Start u F) Done (record b { unit = u; frames = F; free = numbers 1 F })
+  -- a start gives the broker its unit number and its frames, frame 1 on top of the free stack
+  started : {u F : ℕ} → Effect m b (Start u F) Done (record b { unit = u; frames = F; free = range_with_len 1 F })
   -- a client starts with no frame and no estimate
   admitted : {a : Admission} → Effect m b (Admit a) Done (moved b b.free (put b.clients a.client (Some (newcomer a))))
   -- an ask takes the top of the free stack, where one is free

@@ -11,6 +11,7 @@
 -- at_tick           a new broker, its clock set
 -- WorkedExamples    the examples, all together
 use Rattle.std.specs.Prelude.{◌≡◌, ℕ, ◌+◌, ◌-◌, ◌^◌, ◌≤◌, cond, [], ◌∷◌, Some, None, Ok, Err, Option, ◌==◌}
+use Rattle.std.specs.List.{range_with_len}
 use Rattle.rules.specs.declared.offer.Offer.{Offer}
 use Rattle.rules.specs.declared.offer.Quote.{Quote}
 use Rattle.rules.specs.declared.offer.Terms.{Terms}
@@ -20,7 +21,7 @@ use Rattle.rules.specs.Prices.{share, taxed, classed}
 use Rattle.laws.specs.ByNumber.{total}
 use Rattle.laws.specs.Division.{Clients, Settled}
 use Rattle.laws.specs.Broker.{Client, Broker, Estimate, SlipNumbers, new_broker, share_of, MinimumsWithin}
-use Rattle.laws.specs.Calls.{Admission, Call, Start, Admit, Ask, Deliver, HandBack, Leave, SetEstimate, SetClock, Answer, Frame, Count, numbers}
+use Rattle.laws.specs.Calls.{Admission, Call, Start, Admit, Ask, Deliver, HandBack, Leave, SetEstimate, SetClock, Answer, Frame, Count}
 use Rattle.laws.specs.Histories.{Event, event, Throughout, AskOrDelivery, AcceptsOnlyAsks, TurnedAway, AtRest, Keeps}
 use Rattle.laws.specs.Guarantees.{TellsShare}
 use Rattle.laws.specs.Ranges.{TickFits}
@@ -49,7 +50,12 @@ newly shares minimum =
 
 abbrev pub sharing : ℕ → ℕ → Broker
 sharing frames minimum =
-    record new_broker { unit = 1; frames = frames; free = numbers 1 frames; clients = three (newly 500 minimum) (newly 300 0) (newly 100 0) None }
+    record new_broker {
+      unit = 1;
+      frames = frames;
+      free = range_with_len 1 frames;
+      clients = three (newly 500 minimum) (newly 300 0) (newly 100 0) None;
+    }
 
 abbrev pub accepts : Call → Answer → Broker → Event
 accepts x a b = event x (Ok a) b
