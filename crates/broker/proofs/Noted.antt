@@ -1,9 +1,9 @@
 -- What is noted of a client in the pool, and what the rules say of it.
 use Rattle.std.proofs.Common.{◌≡◌, ℕ, ◌≤◌, length, Some, inl, inr, ap, arith}
 use Rattle.std.proofs.lemmas.Bool.{cases_lt}
-use Rattle.rules.specs.Laws.{Made}
+use Rattle.rules.specs.Offers.{Valid}
 use Rattle.laws.specs.ByNumber.{by_number}
-use Rattle.laws.specs.Division.{bid_of}
+use Rattle.laws.specs.Division.{terms, offer_of}
 use Rattle.laws.specs.Broker.{present}
 use Rattle.ledger.specs.Ledgers.{stack_of}
 use Rattle.ledger.proofs.Ledgers.{few_frames, holding_few, no_owner}
@@ -20,9 +20,9 @@ few_stacked b c =
     ]
 
 module _ (b : Pool) (c : ℕ) (x : Member) (e : by_number b.members c ≡ Some x) where
-  -- at every count of frames its bid can be made
-  pub noted_made : (k : ℕ) → 1 ≤ k → k ≤ 4_096 → Made (bid_of (present (view b)) c k)
-  noted_made k low high =
+  -- at every count of frames its offer is one that a client can make
+  pub noted_valid : (k : ℕ) → 1 ≤ k → k ≤ 4_096 → Valid (offer_of (terms (present (view b) c)) k)
+  noted_valid k low high =
       rw e (record {
         some_shares = x.some_shares;
         few_shares = x.few_shares;

@@ -11,7 +11,7 @@ use Rattle.laws.specs.Calls.{Step, Call, Start, Admit, Ask, Deliver, HandBack, L
 use Rattle.laws.proofs.Refused.{denied}
 use Rattle.laws.proofs.Kept.{held_of}
 use Rattle.laws.proofs.Puts.{each_but, put_at, put_off}
-use Rattle.price.specs.declared.key.Ranked.{Ranked}
+use Rattle.price.specs.declared.bid.ValidBid.{ValidBid}
 use Rattle.price.specs.declared.telling.Price.{Ghosts}
 use Rattle.broker.specs.declared.payers.Payers.{Payers}
 use Rattle.broker.specs.Bids.{listed, Lists, Listed, Relisted}
@@ -57,6 +57,6 @@ admitted_listed b (Calls.refused q) = b.kept
 admitted_listed b {x} {a} {w} (Calls.accepted clear Calls.admitted) =
     each_but x.client (λ d. Lists (meaning b) w d (listed b.payers d)) (fresh (listed b.payers x.client) (b.kept x.client)) (spared b (Calls.accepted clear Calls.admitted))
   where
-    fresh : (o : Option Ranked) → Lists (meaning b) (view b) x.client o → Lists (meaning b) w x.client o
+    fresh : (o : Option ValidBid) → Lists (meaning b) (view b) x.client o → Lists (meaning b) w x.client o
     fresh None _ = rw put_at (omega arith)
     fresh (Some j) was = absurd (denied (meaning b) (view b) (Admit x) AlreadyAdmitted clear (λ none. omega (arith, was.0, ap held_of none)))

@@ -1,29 +1,30 @@
 //! Those who hold more than their minimums, with their bids, the lowest first.
 ghost use Rattle.std.specs.Prelude.{◌≡◌, ℕ, ◌≤◌, None, MatchOption};
 ghost use Rattle.heap.specs.Heaps.{Least};
-ghost use Rattle.price.specs.Keys.{Keyed, leads};
+ghost use Rattle.rules.specs.Rank as rank;
+ghost use Rattle.price.specs.Bids.{leads};
 ghost use Rattle.pool.specs.Members.{offer_at};
 ghost use Rattle.pool.specs.View.{view};
 ghost use Rattle.broker.specs.Bids.{listed, Relisted};
 
 use heap::IndexedHeap;
 use pool::{Member, Pool};
-use price::{Price, Ranked, ValidOffer};
-use rules::Quote;
+use price::{Price, ValidBid, ValidOffer};
+use rules::{Bid, Quote};
 
 /// A list of bids by client number, in fixed memory.
 #[derive(Drop)]
 pub(crate) struct Payers {
-    bids: IndexedHeap<Ranked, 257>,
+    bids: IndexedHeap<ValidBid, 257>,
 }
 
 /// The bid of a client at a count of frames.
-pub(crate) fn bid<P: Price>(price: &P, client: u32, member: Member, count: u32) -> Ranked
+pub(crate) fn bid<P: Price>(price: &P, client: u32, member: Member, count: u32) -> ValidBid
     requires { (1 ≤ count) × (count ≤ 4_096) }
-    ensures { Keyed (P.Price.meaning price.now) client member.minimum (offer_at member count) result }
+    ensures { result.bid ≡ rank.bid (P.Price.meaning price.now) client member.minimum (offer_at member count) }
 {
     let offer = ValidOffer::known(member.offer(count));
-    Ranked::new(price, client, member.minimum, offer)
+    ValidBid::new(price, client, member.minimum, offer)
 }
 
 impl Payers {
@@ -31,18 +32,19 @@ impl Payers {
     pub(crate) fn new() -> Payers
         ensures { (c : ℕ) → listed result c ≡ None }
     {
-        let unused = Ranked {
+        let quote = Quote {
+            class: 0,
+            top: 0,
+            bottom: 1,
+        };
+        let unused = Bid {
             client: 0,
             minimum: 0,
             count: 0,
-            quote: Quote {
-                class: 0,
-                top: 0,
-                bottom: 1,
-            },
+            quote,
         };
         Payers {
-            bids: IndexedHeap::new(unused),
+            bids: IndexedHeap::new(ValidBid { bid: unused }),
         }
     }
 
@@ -64,7 +66,7 @@ impl Payers {
     }
 
     /// The lowest bid, if there is any.
-    pub(crate) fn lowest(&self) -> Option<Ranked>
+    pub(crate) fn lowest(&self) -> Option<ValidBid>
         ensures { MatchOption result ((c : ℕ) → listed self.now c ≡ None) (λ k. (c : ℕ) × Least leads (listed self.now) c k) }
     {
         self.bids.root().map(|(_, bid)| *bid)

@@ -10,10 +10,9 @@ use Rattle.std.proofs.lemmas.Fn.{fronts}
 use Rattle.std.proofs.lemmas.Iterator.{YieldsList, YieldsList-from_slice}
 use Rattle.std.proofs.lemmas.Iterator.Adapters.{YieldsList-from_flatten}
 use Rattle.std.proofs.lemmas.Iterator.Consumers.{YieldsList-from_shown, YieldsList-at}
-use Rattle.rules.specs.declared.offer.Terms.{Terms}
 use Rattle.laws.specs.ByNumber.{total, by_number}
 use Rattle.laws.specs.Broker as rules
-use Rattle.laws.specs.Division.{terms}
+use Rattle.laws.specs.Division.{Terms, terms}
 use Rattle.laws.proofs.Kept.{none_some}
 use Rattle.laws.proofs.Sums.{upto_same}
 use Rattle.laws.proofs.Table.{number_sum}

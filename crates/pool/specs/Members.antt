@@ -9,13 +9,15 @@
 use Rattle.std.specs.Prelude.{◌≡◌, ℕ, suc, List, [], Some, None, Option, slice_index_or}
 use Rattle.rules.specs.declared.offer.Offer.{Offer}
 use Rattle.laws.specs.ByNumber.{by_number}
+use Rattle.laws.specs.Division.{offer_of}
 use Rattle.laws.specs.Broker.{Estimate, active_of}
 use Rattle.ledger.specs.declared.ledger.Ledger.{Ledger}
 use Rattle.ledger.specs.Ledgers.{stack_of}
 pub use Rattle.pool.specs.declared.member.Member.{Member}
 
 abbrev pub offer_at : Member → ℕ → Offer
-offer_at x k = record { shares = x.shares; class = x.class; active = active_of x.estimate; count = k }
+offer_at x k =
+    offer_of (record { shares = x.shares; class = x.class; minimum = x.minimum; maximum = x.maximum; active = active_of x.estimate }) k
 
 -- Client c stands in place c - 1, and its frames are in stack c.
 abbrev pub NoStray : List (Option Member) → Ledger → Type 0

@@ -1,6 +1,6 @@
 //! Prices that are lent, as a price over a table that several brokers read will be.
 use crate::prices::{quote, tells};
-use price::{ClassPrice, Price, Ranked, SharePrice, TaxedPrice, ValidOffer};
+use price::{ClassPrice, Price, SharePrice, TaxedPrice, ValidBid, ValidOffer};
 use std::test::Fail;
 
 #[test]
@@ -34,7 +34,7 @@ fn prices_of_three_types_stand_in_one_list(rt: HostRuntime) -> Result<(), Fail> 
     tells(&rt, &prices[1], &[(offer, quote(0, 2500, 250))]);
     tells(&rt, &prices[2], &[(offer, quote(3, 100, 4))]);
     assert_eq!(rt; highest_bottom(&prices, offer), 250);
-    let bids = prices.map(|price| Ranked::new(&price, 1, 0, offer));
+    let bids = prices.map(|price| ValidBid::new(&price, 1, 0, offer));
     assert!(rt; bids[2].ranks_above(&bids[0]));
     assert!(rt; bids[0].ranks_above(&bids[1]));
     Ok(())

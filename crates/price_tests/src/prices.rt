@@ -1,7 +1,7 @@
 //! The examples.
 use either::{Either, Left, Right};
 use heap::Order;
-use price::{ClassPrice, Price, Ranked, SharePrice, TaxedPrice, ValidOffer, tariff_sheet};
+use price::{ClassPrice, Price, SharePrice, TaxedPrice, ValidBid, ValidOffer, tariff_sheet};
 use rules::{Quote, Refusal};
 use std::process::Abort;
 use std::test::Fail;
@@ -97,9 +97,9 @@ fn offers_out_of_range_are_refused_in_order(rt: HostRuntime) {
 #[test]
 fn bids_rank_by_minimum_then_exact_fraction_then_client(rt: HostRuntime) -> Result<(), Fail> {
     let price: Either<SharePrice, TaxedPrice> = Left(SharePrice);
-    let bid = |client: u32, minimum: u32, shares: u32, count: u32| -> Result<Ranked, Refusal> {
+    let bid = |client: u32, minimum: u32, shares: u32, count: u32| -> Result<ValidBid, Refusal> {
         let offer = ValidOffer::new(shares, 0, None, count)?;
-        Ok(Ranked::new(&price, client, minimum, offer))
+        Ok(ValidBid::new(&price, client, minimum, offer))
     };
     // each ranks above the next
     let bids = [

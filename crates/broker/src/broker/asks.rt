@@ -28,7 +28,7 @@ impl<P: Price> Broker<P> {
                 return Err(Refusal::Outbid);
             }
         }
-        Ok(lowest.client)
+        Ok(lowest.bid.client)
     }
 
     /// Grants a client a frame, by the plain numbers of its slip.

@@ -63,6 +63,6 @@ impl<P: Price> Broker<P> {
     pub fn lowest_payer(&self) -> Option<u32>
         ensures { LowestIs (meaning self.now) (view self.now) result }
     {
-        self.payers.lowest().map(|bid| bid.client)
+        self.payers.lowest().map(|lowest| lowest.bid.client)
     }
 }

@@ -1,7 +1,7 @@
 use Rattle.std.proofs.Common.{refl}
 use Rattle.std.proofs.lemmas.Result.{err_from_is_err_and}
 use Rattle.laws.specs.Calls.{refused}
-use Rattle.broker.proofs.Asks.{granted_step, granted_opens}
+use Rattle.broker.proofs.Asks.{granted_some, granted_step, granted_opens}
 use Rattle.broker.proofs.Others.{asked_listed}
 use Rattle.broker.proofs.Steps.{stepped}
 use Rattle.broker.proofs.broker.Broker.grant.Goals as goal
@@ -10,6 +10,9 @@ pub returns-in_err-from-clause-step : goal.returns-in_err-from-clause-step
 returns-in_err-from-clause-step g c =
     let p = err_from_is_err_and c.from_residual.result c.from_residual.ensures.1 in
     rw (p.1, p.2) (stepped (refused c.in_err-from.ensures) refl)
+
+pub unwrap-slip-requires : goal.unwrap-slip-requires
+unwrap-slip-requires g c = granted_some _ refl c.grant.ensures c.in_ok-from.ensures.1
 
 pub invariant_of-self : goal.invariant_of-self
 invariant_of-self g c =

@@ -16,14 +16,14 @@ returns-then-not-ranks_above g c =
     let (clear, noted) = c.in_ok-member.ensures in
     let found = rw c.in_ok-lowest.ensures.ok_part at c.lowest.ensures in
     outbid_by_lowest c.args.self.now c.args.client clear (omega arith) _ found noted c.height-holding.ensures c.bid-bid.ensures
-    (ltb-false _ _ (sym c.if-not-is_below.ensures)) (sym c.if-not-ranks_above.ensures.keys)
+    (ltb-false _ _ (sym c.if-not-is_below.ensures)) (sym c.if-not-ranks_above.ensures)
 
 pub returns-else-not-ranks_above : goal.returns-else-not-ranks_above
 returns-else-not-ranks_above g c =
     let (clear, noted) = c.in_ok-member.ensures in
     let found = rw c.in_ok-lowest.ensures.ok_part at c.lowest.ensures in
     taken_above c.args.self.now c.args.client clear (omega arith) _ found noted c.height-holding.ensures c.bid-bid.ensures
-    (sym c.ranks_above.ensures.keys ∙ c.if-not-ranks_above.false)
+    (sym c.ranks_above.ensures ∙ c.if-not-ranks_above.false)
 
 pub returns-else-not-is_below : goal.returns-else-not-is_below
 returns-else-not-is_below g c =
