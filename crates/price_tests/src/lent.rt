@@ -1,5 +1,5 @@
 //! Prices that are lent, as a price over a table that several brokers read will be.
-use crate::prices::{quote, tells};
+use crate::prices::{quote, tells, valid_offer};
 use price::{ClassPrice, Price, SharePrice, TaxedPrice, ValidBid, ValidOffer};
 use std::test::Fail;
 
@@ -8,7 +8,7 @@ fn two_lent_prices_tell_what_the_one_tells(rt: HostRuntime) -> Result<(), Fail> 
     let price = TaxedPrice::new(75)?;
     let first = &price;
     let second = &price;
-    let offer = ValidOffer::new(100, 0, Some(2), 4)?;
+    let offer = valid_offer(100, 0, Some(2), 4)?;
     let quote = price.quote(offer);
     tells(&rt, &first, &[(offer, quote)]);
     tells(&rt, &second, &[(offer, quote)]);
@@ -29,7 +29,7 @@ fn prices_of_three_types_stand_in_one_list(rt: HostRuntime) -> Result<(), Fail> 
     let taxed = TaxedPrice::new(75)?;
     let classed = ClassPrice::new(SharePrice);
     let prices: [&dyn Price; 3] = [&SharePrice, &taxed, &classed];
-    let offer = ValidOffer::new(100, 3, Some(2), 4)?;
+    let offer = valid_offer(100, 3, Some(2), 4)?;
     tells(&rt, &prices[0], &[(offer, quote(0, 100, 4))]);
     tells(&rt, &prices[1], &[(offer, quote(0, 2500, 250))]);
     tells(&rt, &prices[2], &[(offer, quote(3, 100, 4))]);

@@ -38,7 +38,7 @@ pub record PricesLawful : Type 0 where
   pub one_of_is : (first : Bool) (m n : Meaning) → Lawful m → Lawful n → Lawful (one_of first m n)
 
 pub record ListsRise : Type 0 where
-  pub offers : (shares class count : ℕ) → Rising (offer_entries shares class count)
+  pub offers : (o : Offer) → Rising (offer_entries o)
   pub rates : (rate : ℕ) → Rising (rate_entries rate)
   pub sheets : (rate places : ℕ) → Rising (sheet_entries rate places)
   pub buffers : (wanted places : ℕ) → Rising (buffer_entries wanted places)

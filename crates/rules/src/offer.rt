@@ -4,7 +4,7 @@
 #[derive(Clone, Copy, PartialEq, Eq, Debug, Drop)]
 pub struct Offer {
     pub shares: u32,
-    pub class: u8,
+    pub class: u32,
     pub active: Option<u32>,
     pub count: u32,
 }
@@ -12,7 +12,7 @@ pub struct Offer {
 /// What a price tells of an offer: a class, and the fraction top / bottom.
 #[derive(Clone, Copy, PartialEq, Eq, Debug, Drop)]
 pub struct Quote {
-    pub class: u8,
+    pub class: u32,
     pub top: u32,
     pub bottom: u32,
 }

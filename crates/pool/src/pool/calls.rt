@@ -101,7 +101,7 @@ impl Pool {
         let place = self.admissible(asked)?;
         self.members[place] = Some(Member {
             shares: asked.shares,
-            class: asked.class as u8,
+            class: asked.class,
             minimum: asked.minimum,
             maximum: asked.maximum,
             estimate: None,
