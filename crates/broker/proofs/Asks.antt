@@ -2,7 +2,7 @@
 use Rattle.std.proofs.Common.{◌≡◌, ℕ, zero, suc, ◌+◌, ◌<◌, ◌≤◌, true, false, ◌≢◌, [], length, Some, None, Ok, Err, Option, sym, refl, ap, ◌∙◌, subst, inl, inr, arith}
 use Rattle.std.specs.Option.{ok_or, IsSome}
 use Rattle.std.proofs.lemmas.List.{nil_from_length}
-use Rattle.rules.specs.Offers.{Meaning}
+use Rattle.rules.specs.Offers.{Meaning, Lawful}
 use Rattle.rules.specs.declared.offer.Bid.{Bid}
 use Rattle.rules.specs.Rank.{bid, above}
 use Rattle.rules.specs.Refusals.{First, Clear}
@@ -81,15 +81,15 @@ module _ {P : Type 0} {g : Ghosts P} (b : Broker P g) (c : ℕ) (clear : Clear (
     abbrev From : Type 0
     From = IsClear m (view b) (Ask c) × (Source m (view b) c k.bid.client × (k.bid.client ≢ c))
 
-    from_payer : MayTake m (view b) c k.bid.client → From
-    from_payer may =
+    from_payer : Lawful m → MayTake m (view b) c k.bid.client → From
+    from_payer l may =
         let few : holding (view b) c + 1 ≤ 4_096 = omega (arith, cleared (unpriced (view b) (Ask c)) AtMaximum clear, ap high_of it, x.few_frames) in
-        let other : k.bid.client ≢ c = λ q. not_itself m (view b) (g.lawful b.price) c (noted_valid b.pool c x e) few (rw q at may) in
+        let other : k.bid.client ≢ c = λ q. not_itself m (view b) l c (noted_valid b.pool c x e) few (rw q at may) in
         (clear_after (unpriced (view b) (Ask c)) (priced m (view b) (Ask c)) clear (λ o. o.1 k.bid.client may, tt), (inr (free, may), other))
 
     -- below its minimum a client takes a frame of the lowest payer
-    pub taken_below : h < x.minimum → From
-    taken_below low = from_payer (lowest, inl (omega (arith, held, ap low_of it, low)))
+    pub taken_below : Lawful m → h < x.minimum → From
+    taken_below l low = from_payer l (lowest, inl (omega (arith, held, ap low_of it, low)))
 
     module _ {j : Bid} (made : j ≡ bid m c x.minimum (offer_at x (h + 1))) where
       -- the asker's bid for a frame more
@@ -99,5 +99,5 @@ module _ {P : Type 0} {g : Ghosts P} (b : Broker P g) (c : ℕ) (clear : Clear (
       pub outbid_by_lowest : x.minimum ≤ h → above j k.bid ≡ false → First (entries m (view b) (Ask c)) Outbid
       outbid_by_lowest low under = last_refused (is_outbid m (view b) (listed b.payers) b.kept k found c next (omega (arith, held, ap low_of it, low)) under free)
 
-      pub taken_above : above j k.bid ≡ true → From
-      taken_above over = from_payer (lowest, inr (sym (next_ranks m (view b) (listed b.payers) b.kept k found c next) ∙ over))
+      pub taken_above : Lawful m → above j k.bid ≡ true → From
+      taken_above l over = from_payer l (lowest, inr (sym (next_ranks m (view b) (listed b.payers) b.kept k found c next) ∙ over))

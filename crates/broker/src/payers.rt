@@ -23,7 +23,7 @@ pub(crate) fn bid<P: Price>(price: &P, client: u32, member: Member, count: u32) 
     requires { (1 ≤ count) × (count ≤ 4_096) }
     ensures { result.bid ≡ rank.bid (P.Price.meaning price.now) client member.minimum (offer_at member count) }
 {
-    let offer = ValidOffer::known(member.offer(count));
+    let offer = ValidOffer::new(member.offer(count)).unwrap();
     ValidBid::new(price, client, member.minimum, offer)
 }
 

@@ -30,14 +30,6 @@ impl ValidOffer {
         Ok(ValidOffer { offer })
     }
 
-    /// An offer that is known to be in its ranges, without a test.
-    pub fn known(offer: Offer) -> ValidOffer
-        requires { Valid offer }
-        ensures { result.offer ≡ offer }
-    {
-        ValidOffer { offer }
-    }
-
     /// What the offer says, which is in its ranges.
     pub fn offer(&self) -> Offer
         ensures value { result ≡ self.now.offer }

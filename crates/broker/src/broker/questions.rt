@@ -54,7 +54,7 @@ impl<P: Price> Broker<P> {
             return Err(Refusal::CountOutOfRange);
         }
         let member = self.pool.member(client)?;
-        let offer = ValidOffer::known(member.offer(count));
+        let offer = ValidOffer::new(member.offer(count)).unwrap();
         Ok(self.price.quote(offer))
     }
 

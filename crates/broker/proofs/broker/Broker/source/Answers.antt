@@ -22,12 +22,12 @@ pub returns-else-not-ranks_above : goal.returns-else-not-ranks_above
 returns-else-not-ranks_above g c =
     let (clear, noted) = c.in_ok-member.ensures in
     let found = rw c.in_ok-lowest.ensures.ok_part at c.lowest.ensures in
-    taken_above c.args.self.now c.args.client clear (omega arith) _ found noted c.height-holding.ensures c.bid-bid.ensures
+    taken_above c.args.self.now c.args.client clear (omega arith) _ found noted c.height-holding.ensures c.bid-bid.ensures (g.met.P.Price.lawful _)
     (sym c.ranks_above.ensures ∙ c.if-not-ranks_above.false)
 
 pub returns-else-not-is_below : goal.returns-else-not-is_below
 returns-else-not-is_below g c =
     let (clear, noted) = c.in_ok-member.ensures in
     let found = rw c.in_ok-lowest.ensures.ok_part at c.lowest.ensures in
-    taken_below c.args.self.now c.args.client clear (omega arith) _ found noted c.height-holding.ensures
+    taken_below c.args.self.now c.args.client clear (omega arith) _ found noted c.height-holding.ensures (g.met.P.Price.lawful _)
     (ltb-true _ _ (sym c.is_below.ensures ∙ c.if-not-is_below.false))
