@@ -33,7 +33,7 @@ struct Held {
 }
 
 // Kept: price_tests has the same: a crate of tests serves no other, and one in `rules` would serve tests alone.
-fn quote(class: u8, top: u32, bottom: u32) -> Quote {
+fn quote(class: u32, top: u32, bottom: u32) -> Quote {
     Quote { class, top, bottom }
 }
 

@@ -4,6 +4,7 @@ use Rattle.std.proofs.lemmas.List.{take_more, take_more_set, take_all, drop-set-
 use Rattle.std.proofs.lemmas.Grind.{drop_more_same}
 use Rattle.std.proofs.lemmas.Bool.{eq-eqb, ne_eqb}
 use Rattle.std.proofs.lemmas.Option.{same_Some}
+use Rattle.rules.specs.Offers.{Lawful}
 use Rattle.rules.specs.declared.call.Answer.{Answer}
 use Rattle.rules.specs.declared.refusal.Refusal.{Refusal}
 use Rattle.laws.specs.Histories.{Event, event}
@@ -76,11 +77,11 @@ module _ {P : Type 0} {ghosts : Ghosts P} where
       sofar_one (Some a) {ds} made = more (Some a) _ ds (one s.obeyed made) (carries_one bs s.events cs ds o a s.carries made)
       sofar_one None (far, same) = rw same (more None s.events cs (nowhere o s.obeyed far) s.carries)
 
-    pub all_done : i ≡ length os → InTurn bs os before cs after
-    all_done e =
+    pub all_done : ((p : P) → Lawful (ghosts.meaning p)) → i ≡ length os → InTurn bs os before cs after
+    all_done l e =
         record {
           events = s.events;
           obeyed = rw (← e) (rw (take_all i os (omega (arith, e))) at s.obeyed);
-          kept = λ n b at. let (d, there, on) = s.carries n b at in (d, there, λ g led. (on g led, histories_keep_guarantees (meaning d) (ghosts.lawful d.price) (own n s.events ++ g) (view d) (on g led)));
+          kept = λ n b at. let (d, there, on) = s.carries n b at in (d, there, λ g led. (on g led, histories_keep_guarantees (meaning d) (l d.price) (own n s.events ++ g) (view d) (on g led)));
           behind = rw (← e) s.behind;
         }

@@ -3,7 +3,6 @@ use Rattle.std.proofs.Common.{◌≡◌, ℕ, zero, suc, ◌+◌, ◌<◌, ◌�
 use mathlib.Core.Path.{fun_ext}
 use lib.ListN.{length-reverse}
 use Rattle.std.proofs.lemmas.Option.{same_Some}
-use Rattle.rules.specs.declared.offer.Terms.{Terms}
 use Rattle.rules.specs.declared.call.Call.TheVariants.{Start, Admit}
 use Rattle.rules.specs.declared.refusal.Refusal.{Refusal}
 use Rattle.rules.specs.declared.refusal.Refusal.TheVariants.{PoolOutOfRange, ClientOutOfRange, SharesOutOfRange, ClassOutOfRange, MaximumOutOfRange, AlreadyStarted, AlreadyAdmitted, MaximumAboveFrames, MinimumsAboveFrames}
@@ -11,7 +10,7 @@ use Rattle.rules.specs.Offers.{Meaning}
 use Rattle.rules.specs.Refusals.{Outside}
 use Rattle.rules.proofs.Named.{When}
 use Rattle.laws.specs.ByNumber.{total, Numbered, put}
-use Rattle.laws.specs.Division.{Clients, Admissible, terms}
+use Rattle.laws.specs.Division.{Terms, Clients, Admissible, terms}
 use Rattle.laws.specs.Broker.{Broker, Client, new_broker, terms_of, stack_of}
 use Rattle.laws.specs.Calls.{Admission, IsClear, entries, newcomer, numbers, with_stack}
 use Rattle.laws.proofs.Sums.{upto_zero}

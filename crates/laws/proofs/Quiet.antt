@@ -3,13 +3,12 @@ use Rattle.std.proofs.Common.{◌≡◌, ℕ, ◌^◌, ◌<◌, Some, None, Opti
 use Rattle.std.proofs.lemmas.Option.{same_Some}
 use Rattle.std.proofs.lemmas.Bool.Decides.{nat_tests}
 use Rattle.rules.specs.declared.call.Estimate.{Estimate}
-use Rattle.rules.specs.declared.offer.Terms.{Terms}
 use Rattle.rules.specs.declared.call.Call.{Call}
 use Rattle.rules.specs.declared.call.Call.TheVariants.{Deliver, SetEstimate, SetClock}
 use Rattle.rules.specs.declared.call.Answer.{Answer}
 use Rattle.rules.specs.declared.refusal.Refusal.TheVariants.{ActiveAboveFrames}
 use Rattle.rules.specs.Offers.{Meaning}
-use Rattle.laws.specs.Division.{Admissible, terms}
+use Rattle.laws.specs.Division.{Terms, Admissible, terms}
 use Rattle.laws.specs.Broker.{Broker, Client, active_of, terms_of, stack_of}
 use Rattle.laws.specs.Calls
 use Rattle.laws.specs.Calls.{Effect, IsClear, lasting, lasts, with_estimate}

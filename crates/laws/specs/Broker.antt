@@ -22,10 +22,9 @@ use Rattle.std.specs.Prelude.{◌≡◌, ℕ, ◌+◌, ◌*◌, ◌/◌, ◌<◌
 pub use Rattle.rules.specs.declared.call.Estimate.{Estimate}
 pub use Rattle.rules.specs.declared.call.SlipNumbers.{SlipNumbers}
 use Rattle.rules.specs.Offers.{Meaning}
-use Rattle.rules.specs.declared.offer.Terms.{Terms}
 use Rattle.rules.specs.Rank.{Above, above}
 use Rattle.laws.specs.ByNumber.{total}
-use Rattle.laws.specs.Division.{Clients, terms, minimum_of, bid_of}
+use Rattle.laws.specs.Division.{Terms, Clients, terms, minimum_of, bid_of}
 
 pub record Client : Type 0 where
   pub shares : ℕ
@@ -87,14 +86,14 @@ Beyond b c = minimum_of (present b) c < holding b c
 
 pub record LowestPayer (m : Meaning) (b : Broker) (p : ℕ) : Type 0 where
   pub beyond : Beyond b p
-  pub lowest : (d : ℕ) → Beyond b d → above m (bid_of (present b) p (holding b p)) (bid_of (present b) d (holding b d)) ≡ false
+  pub lowest : (d : ℕ) → Beyond b d → above (bid_of m (present b) p (holding b p)) (bid_of m (present b) d (holding b d)) ≡ false
 
 -- A client below its minimum may take one outright. Any other must outrank the lowest payer's bid at its holding by its
 -- own bid at one frame more than it holds.
 abbrev pub MayTake : Meaning → Broker → ℕ → ℕ → Type 0
 MayTake m b c p =
     LowestPayer m b p
-    × ((holding b c < minimum_of (present b) c) ⊎ Above m (bid_of (present b) c (holding b c + 1)) (bid_of (present b) p (holding b p)))
+    × ((holding b c < minimum_of (present b) c) ⊎ Above (bid_of m (present b) c (holding b c + 1)) (bid_of m (present b) p (holding b p)))
 
 abbrev pub IsOutbid : Meaning → Broker → ℕ → Type 0
 IsOutbid m b c = (b.free ≡ []) × ((p : ℕ) → MayTake m b c p → ⊥)

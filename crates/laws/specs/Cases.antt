@@ -11,11 +11,10 @@
 use Rattle.std.specs.Prelude.{◌≡◌, ℕ, ◌+◌, cond, [], ◌∷◌, Some, None, Ok, Err, Option, ◌==◌}
 use Rattle.rules.specs.declared.offer.Offer.{Offer}
 use Rattle.rules.specs.declared.offer.Quote.{Quote}
-use Rattle.rules.specs.declared.offer.Terms.{Terms}
 use Rattle.rules.specs.declared.refusal.Refusal.TheVariants.{NotAdmitted, AtMaximum, Outbid, HoldsNoFrame}
 use Rattle.rules.specs.Prices.{share, taxed, classed}
 use Rattle.laws.specs.ByNumber.{total}
-use Rattle.laws.specs.Division.{Clients, Settled}
+use Rattle.laws.specs.Division.{Terms, Clients, Settled}
 use Rattle.laws.specs.Broker.{Client, Broker, SlipNumbers, new_broker, share_of, MinimumsWithin}
 use Rattle.laws.specs.Calls.{Ask, Deliver, HandBack, Leave, SetClock, Frame, Count, numbers}
 use Rattle.laws.specs.Histories.{event, AskOrDelivery, AcceptsOnlyAsks, TurnedAway, Keeps}

@@ -13,15 +13,3 @@ impl<P: Price> Price for &P {
         P::quote(self, offer)
     }
 }
-
-/// So does a lent price of any type, so prices of different types can stand in one list.
-// Kept: two impls: a type parameter has a size, and `dyn Price` has none.
-impl Price for &dyn Price {
-    ghost meaning = { λ p. (Price-dyn p.now).meaning p.now.1 };
-
-    ghost lawful = { λ p. (Price-dyn p.now).lawful p.now.1 };
-
-    fn quote(&self, offer: ValidOffer) -> Quote {
-        (**self).quote(offer)
-    }
-}

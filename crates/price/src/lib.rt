@@ -2,9 +2,9 @@
 //! sheet of the taxed price.
 #![tactic(auto)]
 
+mod bid;
 mod choice;
 mod class;
-mod key;
 mod lent;
 mod offer;
 mod share;
@@ -12,8 +12,8 @@ mod sheet;
 mod taxed;
 mod telling;
 
+pub use bid::ValidBid;
 pub use class::ClassPrice;
-pub use key::Ranked;
 pub use offer::ValidOffer;
 pub use share::SharePrice;
 pub use sheet::tariff_sheet;

@@ -13,10 +13,10 @@ pub trait Price {
     /// What the price tells of every offer.
     ghost meaning: { Self → Offer → Quote };
 
-    /// That the price is lawful, for every value of its type. A member, and not a `law`, so that a price may borrow.
-    ghost lawful: { (p : Self) → Lawful (meaning p) };
-
     /// What the price tells of this offer. It refuses none.
     fn quote(&self, offer: ValidOffer) -> Quote
         ensures { result ≡ meaning self.now offer.offer };
+
+    /// That the price is lawful.
+    ghost lawful: { (p : Self) → Lawful (meaning p) };
 }

@@ -1,4 +1,5 @@
 pub mod Named
 pub mod Separate
+pub mod Bids
 pub mod Ranked
 pub mod Lawfully

@@ -1,10 +1,10 @@
--- The rank is one strict order under every lawful price.
+-- The rank is one strict order of bids whose quotes are fractions, as those under lawful prices are.
 use Rattle.std.proofs.Common.{◌≡◌, ℕ, ◌*◌, ◌<◌, ◌≤◌, false, ◌⊎◌, mul-le-mul_right, nat_lt, arith, ltb-false, le-ltb}
 use native.Mathlib.Nat.{le_of_mul-le-mul_left}
 use Rattle.std.proofs.lemmas.Bool.Decides.{nat_tests}
-use Rattle.rules.specs.Offers.{Meaning, Lawful}
-use Rattle.rules.specs.Rank.{Bid, Terms, ranks, above, Above, by_minimum, by_fraction, told, offer_of, bid_at, tests}
-use Rattle.rules.specs.Laws.{Apart, Made, RankIsOneOrder}
+use Rattle.rules.specs.Offers.{Offer, Meaning, Valid, at_count, Lawful}
+use Rattle.rules.specs.Rank.{Bid, bid, ranks, above, Above, by_minimum, by_fraction, tests}
+use Rattle.rules.specs.Laws.{IsFraction, Apart, RankIsOneOrder}
 use Rattle.rules.proofs.Separate.{Weak, Each, ranks_asym, ranks_past}
 
 -- fractions in a row, with a positive bottom in the middle
@@ -12,63 +12,63 @@ cross : (at ab bt bb ct cb : ℕ) → 1 ≤ bb → at * bb ≤ bt * ab → bt * 
 cross at ab bt bb ct cb p h k =
     le_of_mul-le-mul_left {k = bb} (omega (arith, mul-le-mul_right cb h, mul-le-mul_right ab k)) p
 
--- the fraction told has a positive bottom, which is all that the rank needs of a bid to be a weak order
-abbrev pub Fair : Meaning → Bid → Type 0
-Fair m b = 1 ≤ (told m b).bottom
+abbrev Fair : Bid → Type 0
+Fair b = IsFraction b.quote
 
-pub fair : (m : Meaning) → Lawful m → (b : Bid) → Made b → Fair m b
-fair m l b v = (l.in_range (offer_of b) v).some_bottom
+weak_minimum : Weak Fair by_minimum
+weak_minimum = record { asym = λ a b h. grind (arith, nat_tests); past = λ a b c pa pb pc h k. grind (arith, nat_tests) }
 
-module _ (m : Meaning) where
-  weak_minimum : Weak (Fair m) by_minimum
-  weak_minimum = record { asym = λ a b pa pb h. grind (arith, nat_tests); past = λ a b c pa pb pc h k. grind (arith, nat_tests) }
+-- a test by a number, of which the smaller one or the larger one wins
+weak_number : (f : Bid → ℕ) → Weak Fair (λ a b. nat_lt (f a) (f b)) × Weak Fair (λ a b. nat_lt (f b) (f a))
+weak_number f = (
+  record { asym = λ a b h. grind (arith, nat_tests); past = λ a b c pa pb pc h k. grind (arith, nat_tests) },
+  record { asym = λ a b h. grind (arith, nat_tests); past = λ a b c pa pb pc h k. grind (arith, nat_tests) },
+)
 
-  -- a test by a number, of which the smaller one or the larger one wins
-  weak_number : (f : Bid → ℕ) → Weak (Fair m) (λ a b. nat_lt (f a) (f b)) × Weak (Fair m) (λ a b. nat_lt (f b) (f a))
-  weak_number f = (
-    record { asym = λ a b pa pb h. grind (arith, nat_tests); past = λ a b c pa pb pc h k. grind (arith, nat_tests) },
-    record { asym = λ a b pa pb h. grind (arith, nat_tests); past = λ a b c pa pb pc h k. grind (arith, nat_tests) },
-  )
+weak_fraction : Weak Fair by_fraction
+weak_fraction =
+    record {
+      asym = λ a b h. grind (arith, nat_tests);
+      past = λ a b c pa pb pc h k. le-ltb _ _ (cross _ _ _ _ _ _ pb (ltb-false _ _ h) (ltb-false _ _ k));
+    }
 
-  weak_fraction : Weak (Fair m) (by_fraction m)
-  weak_fraction =
-      record {
-        asym = λ a b pa pb h. grind (arith, nat_tests);
-        past = λ a b c pa pb pc h k. le-ltb _ _ (cross _ _ _ _ _ _ pb (ltb-false _ _ h) (ltb-false _ _ k));
-      }
+weak_all : Each Fair tests
+weak_all = (weak_minimum, ((weak_number (λ b. b.quote.class)).1, (weak_fraction, ((weak_number (λ b. b.client)).0, ((weak_number (λ b. b.count)).0, tt)))))
 
-  weak_all : Each (Fair m) (tests m)
-  weak_all = (weak_minimum, ((weak_number (λ b. (told m b).class)).1, (weak_fraction, ((weak_number (λ b. b.client)).0, ((weak_number (λ b. b.count)).0, tt)))))
+-- who ranks above another does not rank below it
+pub asym : (a b : Bid) → Above a b → above b a ≡ false
+unfolding above
+asym a b h = ranks_asym Fair tests weak_all a b h
 
-  -- who ranks above another does not rank below it
-  pub asym : (a b : Bid) → Fair m a → Fair m b → Above m a b → above m b a ≡ false
-  unfolding above
-  asym a b pa pb h = ranks_asym (Fair m) (tests m) weak_all a b pa pb h
+-- who ranks above neither of two in a row does not rank above the last
+pub past : (a b c : Bid) → Fair a → Fair b → Fair c → above a b ≡ false → above b c ≡ false → above a c ≡ false
+unfolding above
+past a b c pa pb pc h k = ranks_past Fair tests weak_all a b c pa pb pc h k
 
-  -- who ranks above neither of two in a row does not rank above the last
-  pub past : (a b c : Bid) → Fair m a → Fair m b → Fair m c → above m a b ≡ false → above m b c ≡ false → above m a c ≡ false
-  unfolding above
-  past a b c pa pb pc h k = ranks_past (Fair m) (tests m) weak_all a b c pa pb pc h k
+pub decided : (a b : Bid) → Apart a b → Above a b ⊎ Above b a
+unfolding above ranks
+decided a b d = grind (arith, nat_tests)
 
-  pub decided : (a b : Bid) → Apart a b → Above m a b ⊎ Above m b a
-  unfolding above ranks
-  decided a b d = grind (arith, nat_tests)
+pub fraction : (m : Meaning) → Lawful m → (o : Offer) → Valid o → IsFraction (m o)
+fraction m l o v = (l.in_range o v).some_bottom
 
-  pub own_fall : Lawful m → (c : ℕ) (t : Terms) (j k : ℕ) → Made (bid_at c t j) → Made (bid_at c t k) → j < k → Above m (bid_at c t j) (bid_at c t k)
-  unfolding above ranks
-  own_fall l c t j k v w h =
-      let e = l.one_class (offer_of (bid_at c t j)) j k v w in
-      let f = l.falling (offer_of (bid_at c t j)) j k v w (omega arith) in
-      grind (arith, nat_tests)
+pub own_fall : (m : Meaning) → Lawful m → (c n : ℕ) (o : Offer) (j k : ℕ) → Valid (at_count o j) → Valid (at_count o k) → j < k →
+    Above (bid m c n (at_count o j)) (bid m c n (at_count o k))
+unfolding above ranks
+own_fall m l c n o j k v w h =
+    let e = l.one_class o j k v w in
+    let f = l.falling o j k v w (omega arith) in
+    grind (arith, nat_tests)
 
 pub rank_is_one_order : RankIsOneOrder
-rank_is_one_order m l =
+rank_is_one_order =
     record {
-      one_way = λ a b v w h k. let n = asym m a b (fair m l a v) (fair m l b w) h in cc;
+      one_way = λ a b h k. let n = asym a b h in cc;
       through = λ a b c u v w h k.
-          let n = asym m a b (fair m l a u) (fair m l b v) h in
-          let p = past m b a c (fair m l b v) (fair m l a u) (fair m l c w) n in
+          let n = asym a b h in
+          let p = past b a c v u w n in
           grind arith;
-      decided = decided m;
-      own_fall = own_fall m l;
+      decided = decided;
+      fraction = fraction;
+      own_fall = own_fall;
     }

@@ -1,7 +1,7 @@
 //! The laws of the rank, of the prices and of the lists of refusals. Each function does nothing: its contract is the law.
 ghost use Rattle.rules.specs.Laws.{RankIsOneOrder, PricesLawful, ListsRise};
 
-/// Under every lawful price the rank is one strict order, and falls with the count for each client.
+/// The rank is one strict order of the bids under lawful prices, and falls with the count for each client.
 pub fn rank_is_one_order()
     ensures { RankIsOneOrder }
 {}

@@ -8,5 +8,5 @@ mod offer;
 mod refusal;
 
 pub use call::{Admission, Answer, Call, Estimate, SlipNumbers};
-pub use offer::{Bid, Offer, Quote, Terms};
+pub use offer::{Bid, Offer, Quote};
 pub use refusal::{Fault, FaultKind, Refusal};

@@ -13,5 +13,5 @@ loop-i-preserved g c =
 pub returns : goal.returns
 returns g c = (
   omega (arith, c.if-answers-orders.false),
-  all_done c.loop-i.invariant (omega (arith, c.loop-i-test.false, c.loop-i.auto.i-end)),
+  all_done c.loop-i.invariant g.met.P.Price.lawful (omega (arith, c.loop-i-test.false, c.loop-i.auto.i-end)),
 )
