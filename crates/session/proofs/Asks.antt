@@ -13,7 +13,7 @@ use Rattle.laws.proofs.Puts.{put_at, put_off}
 use Rattle.broker.specs.declared.broker.Broker.{Broker}
 use Rattle.broker.specs.declared.slip.Undelivered.{Undelivered}
 use Rattle.broker.specs.View.{meaning, view, delivered, Stepped, Opens}
-use Rattle.price.specs.declared.telling.Price.{Ghosts}
+use Rattle.price.specs.declared.price.Price.{Ghosts}
 use Rattle.events.specs.declared.event.Event.TheVariants as event
 use Rattle.session.specs.declared.printed.Grant.{Grant}
 use Rattle.session.specs.declared.printed.Printed.TheVariants as line

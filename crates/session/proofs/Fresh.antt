@@ -5,7 +5,7 @@ use Rattle.events.proofs.Cutting.{one_cut}
 use Rattle.laws.specs.Broker as rules
 use Rattle.laws.specs.Histories as history
 use Rattle.broker.specs.View.{meaning, view, Guaranteed}
-use Rattle.price.specs.declared.telling.Price.{Ghosts}
+use Rattle.price.specs.declared.price.Price.{Ghosts}
 use Rattle.session.specs.declared.printed.Printed.{Printed}
 use Rattle.session.specs.declared.run.Stage.TheVariants.{Reading}
 use Rattle.session.specs.Run.{Run, PrintsAll, Gives, Fresh}

@@ -3,7 +3,7 @@ use Rattle.std.proofs.Common.{◌≡◌, ℕ, List, [], ◌∷◌, ◌++◌, Som
 use Rattle.std.proofs.KnownBytes.{Appends-trans}
 use Rattle.std.proofs.lemmas.List.{append-nil, flat_map_more}
 use Rattle.std.specs.Io.KnownBytes.{Appends}
-use Rattle.price.specs.declared.telling.Price.{Ghosts}
+use Rattle.price.specs.declared.price.Price.{Ghosts}
 use Rattle.session.specs.declared.printed.Printed.{Printed}
 use Rattle.session.specs.Run.{Run, Nexts, Gives, Continues, PrintsRun, none, some, ended, lines}
 

@@ -15,7 +15,7 @@ use Rattle.laws.proofs.One.{first_or_clear}
 use Rattle.pool.specs.View.{NextClient}
 use Rattle.broker.specs.declared.broker.Broker.{Broker}
 use Rattle.broker.specs.View.{meaning, view}
-use Rattle.price.specs.declared.telling.Price.{Ghosts}
+use Rattle.price.specs.declared.price.Price.{Ghosts}
 use Rattle.session.specs.declared.printed.Printed.{Printed}
 use Rattle.session.specs.declared.printed.Printed.TheVariants as line
 use Rattle.session.specs.declared.run.Stage.{Stage}

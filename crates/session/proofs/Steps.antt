@@ -11,7 +11,7 @@ use Rattle.laws.specs.Histories as history
 use Rattle.laws.specs.Histories.{Run, then}
 use Rattle.broker.specs.declared.broker.Broker.{Broker}
 use Rattle.broker.specs.View.{meaning, view, Stepped}
-use Rattle.price.specs.declared.telling.Price.{Ghosts}
+use Rattle.price.specs.declared.price.Price.{Ghosts}
 use Rattle.session.specs.declared.printed.Printed.{Printed}
 use Rattle.session.specs.Session.{call_of, Performs, LinePerforms, Performed, LinePerformed}
 use Rattle.session.specs.Session as session

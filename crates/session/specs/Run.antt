@@ -31,7 +31,7 @@ use Rattle.laws.specs.Histories as history
 use Rattle.laws.specs.Questions.{price_at}
 use Rattle.pool.specs.View.{NextClient}
 use Rattle.broker.specs.View.{meaning, view, Led, Guaranteed}
-use Rattle.price.specs.declared.telling.Price.{Ghosts}
+use Rattle.price.specs.declared.price.Price.{Ghosts}
 use Rattle.session.specs.declared.printed.Held.{Held}
 use Rattle.session.specs.declared.printed.Printed.{Printed}
 use Rattle.session.specs.declared.printed.Printed.TheVariants as line
