@@ -22,7 +22,7 @@ pub fn add_quote(text: &mut Text, word: &[u8], quote: Quote)
     ensures short { length (quoted quote) ≤ 32 }
     ensures text { spelt text.new ≡ cut (spelt text.old ++ priced word.now quote) }
 {
-    add_number(text, word, quote.class as u32);
+    add_number(text, word, quote.class);
     add_number(text, b":", quote.top);
     add_number(text, b"/", quote.bottom);
 }
