@@ -17,7 +17,7 @@ use Rattle.laws.specs.Calls.{Ask, Granted, Step, accepted, entries, unpriced, pr
 use Rattle.laws.proofs.Kept.{low_of, high_of, held_of}
 use Rattle.ledger.specs.Ledgers.{stack_of}
 use Rattle.heap.specs.Heaps.{Least}
-use Rattle.price.specs.declared.telling.Price.{Ghosts}
+use Rattle.price.specs.declared.price.Price.{Ghosts}
 use Rattle.pool.specs.declared.member.Member.{Member}
 use Rattle.pool.specs.Records.{offer_at}
 use Rattle.pool.specs.Members.{member_of}

@@ -5,7 +5,7 @@ use Rattle.laws.specs.ByNumber.{total, put}
 use Rattle.laws.specs.Broker as rules
 use Rattle.laws.specs.Calls.{SetClock, Count, Step, IsClear, moved, ends, with_estimate}
 use Rattle.laws.proofs.Puts.{put_off}
-use Rattle.price.specs.declared.telling.Price.{Ghosts}
+use Rattle.price.specs.declared.price.Price.{Ghosts}
 use Rattle.pool.specs.Clocks.{DropsMany, DropsFrom, Drops, at_tick}
 use Rattle.pool.proofs.Clocks.{clocked_one, clocked_falls, clock_step}
 use Rattle.broker.specs.declared.bids.Bids.{Bids}

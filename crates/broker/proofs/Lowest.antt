@@ -4,7 +4,7 @@ use Rattle.std.proofs.lemmas.Bool.{not-true, both_ways}
 use Rattle.rules.specs.Offers.{Meaning, Valid, Lawful}
 use Rattle.rules.specs.declared.offer.Bid.{Bid}
 use Rattle.rules.specs.Rank.{above, Above}
-use Rattle.rules.proofs.Ranked.{rank_is_one_order}
+use Rattle.rules.proofs.RankIsOneOrder.{rank_is_one_order}
 use Rattle.laws.specs.Division.{terms, minimum_of, offer_of, bid_of}
 use Rattle.laws.specs.Broker.{Broker, terms_of, new_broker, present, holding, Beyond, LowestPayer, MayTake, IsOutbid}
 use Rattle.laws.specs.Questions.{LowestIs}

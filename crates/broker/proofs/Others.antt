@@ -12,7 +12,7 @@ use Rattle.laws.proofs.Refused.{denied}
 use Rattle.laws.proofs.Kept.{held_of}
 use Rattle.laws.proofs.Puts.{each_but, put_at, put_off}
 use Rattle.price.specs.declared.bid.ValidBid.{ValidBid}
-use Rattle.price.specs.declared.telling.Price.{Ghosts}
+use Rattle.price.specs.declared.price.Price.{Ghosts}
 use Rattle.broker.specs.declared.bids.Bids.{Bids}
 use Rattle.broker.specs.Bids.{bid_in, IsBid, AreBids, Renews}
 use Rattle.broker.specs.View.{Broker, meaning, view}

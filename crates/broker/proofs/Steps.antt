@@ -5,7 +5,7 @@ use Rattle.rules.specs.declared.refusal.Refusal.{Refusal}
 use Rattle.laws.specs.Calls.{Call, Answer, Step}
 use Rattle.laws.specs.Histories.{Event, event, then}
 use Rattle.laws.proofs.Guaranteed.{histories_keep_guarantees}
-use Rattle.price.specs.declared.telling.Price.{Ghosts}
+use Rattle.price.specs.declared.price.Price.{Ghosts}
 use Rattle.broker.specs.View.{Broker, meaning, view, Led, Stepped}
 
 -- a step of the rules, under a price that stays, carries on every history

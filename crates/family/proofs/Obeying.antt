@@ -13,7 +13,7 @@ use Rattle.laws.proofs.Guaranteed.{histories_keep_guarantees}
 use Rattle.laws.proofs.Puts.{each_but}
 use Rattle.broker.specs.declared.broker.Broker.{Broker}
 use Rattle.broker.specs.View.{meaning, view, Led}
-use Rattle.price.specs.declared.telling.Price.{Ghosts}
+use Rattle.price.specs.declared.price.Price.{Ghosts}
 use Rattle.family.specs.Orders.{Order, At, Called, Obeyed, Obeys, none, one, nowhere, InTurn}
 use Rattle.family.proofs.Places.{nth_set_same, nth_set_other}
 

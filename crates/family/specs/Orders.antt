@@ -20,7 +20,7 @@ use Rattle.laws.specs.Families.{Tagged, tagged, own}
 use Rattle.laws.specs.Guarantees.{Guarantees}
 use Rattle.broker.specs.declared.broker.Broker.{Broker}
 use Rattle.broker.specs.View.{meaning, view, Led, Stepped}
-use Rattle.price.specs.declared.telling.Price.{Ghosts}
+use Rattle.price.specs.declared.price.Price.{Ghosts}
 pub use Rattle.family.specs.declared.orders.Order.{Order}
 
 module _ {P : Type 0} {g : Ghosts P} where

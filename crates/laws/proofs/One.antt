@@ -5,7 +5,7 @@ use Rattle.rules.specs.declared.call.Answer.{Answer}
 use Rattle.rules.specs.declared.refusal.Refusal.{Refusal}
 use Rattle.rules.specs.Offers.{Meaning}
 use Rattle.rules.specs.Refusals.{Entry, First, Clear}
-use Rattle.rules.proofs.Ranked.{decided}
+use Rattle.rules.proofs.RankIsOneOrder.{decided}
 use Rattle.laws.specs.Division.{bid_of}
 use Rattle.laws.specs.Broker.{Broker, holding, present, LowestPayer}
 use Rattle.laws.specs.Calls

@@ -3,7 +3,7 @@ use Rattle.std.proofs.Common.{◌≡◌, ℕ, ◌<◌, ◌≤◌, min, Some, Non
 use Rattle.rules.specs.Offers.{Meaning, Valid, Lawful}
 use Rattle.rules.specs.Rank.{above}
 use Rattle.rules.specs.Laws.{IsFraction}
-use Rattle.rules.proofs.Ranked.{fraction, asym, past, decided, own_fall}
+use Rattle.rules.proofs.RankIsOneOrder.{fraction, asym, past, decided, own_fall}
 use Rattle.laws.specs.Division.{Terms, Settled, Clients, Admissible, AllAdmissible, terms, minimum_of, capped, offer_of, bid_of}
 use Rattle.laws.specs.Laws.{DivisionIsUnique}
 use Rattle.laws.proofs.Sums.{below_too}

@@ -5,20 +5,20 @@ ghost use Rattle.rules.specs.Laws.{IsFraction};
 ghost use Rattle.rules.specs.Rank.{bid, above};
 
 use crate::offer::ValidOffer;
-use crate::telling::Price;
+use crate::price::Price;
 use heap::Order;
 use rules::Bid;
 use std::cmp::Ordering;
 
-/// A bid whose quote has a bottom of at least 1, as every price tells it: among such bids the rank is an order.
+/// A bid under a lawful price: the bottom of its quote is at least 1. Among such bids the rank is an order.
 #[derive(Clone, Copy, Drop)]
 pub struct ValidBid {
     pub bid: Bid,
     ghost fraction: { IsFraction bid.quote },
 }
 
-/// How a bid ranks beside another: five tests, of which the first that separates the two decides. Fractions are compared by
-/// their cross products, which fit 64 bits.
+/// How a bid ranks beside another: five tests, of which the first that separates the two decides. Fractions are compared
+/// by their cross products, which fit 64 bits.
 #[tactic(auto, unfolding(rules::specs::Rank::above, rules::specs::Rank::ranks))]
 fn rank(a: &Bid, b: &Bid) -> Ordering
     ensures { is_gt result ≡ above a.now b.now }
@@ -58,18 +58,16 @@ impl ValidBid {
     }
 }
 
-/// A key of a heap, at whose root the lowest bid then stands.
+/// Bids are the keys of a heap with the lowest bid at its root.
 impl Order for ValidBid {
-    ghost use Rattle.std.proofs.lemmas.Bool.{not-true, not-false, not_from_false};
-    ghost use Rattle.rules.specs.Rank.{above};
-    ghost use Rattle.rules.proofs.Ranked.{asym, past};
+    ghost use Rattle.rules.proofs.RankIsOneOrder.{one_no_higher, no_higher_on};
     ghost use Rattle.price.specs.Bids.{leads};
 
     ghost leads = { leads };
 
-    ghost total = { λ x y h. not_from_false (above y.bid x.bid) (asym x.bid y.bid (not-false (above x.bid y.bid) h)) };
+    ghost total = { λ x y. one_no_higher x.bid y.bid };
 
-    ghost chain = { λ x y z h k. not_from_false (above x.bid z.bid) (past x.bid y.bid z.bid x.fraction y.fraction z.fraction (not-true (above x.bid y.bid) h) (not-true (above y.bid z.bid) k)) };
+    ghost chain = { λ x y z. no_higher_on x.bid y.bid z.bid x.fraction y.fraction z.fraction };
 
     fn no_later(&self, other: &ValidBid) -> bool {
         !self.ranks_above(other)

@@ -13,8 +13,8 @@ pub struct ValidOffer {
 }
 
 impl ValidOffer {
-    /// This offer, where its numbers are in their ranges. Shares outside 1 to 1,000,000, a class above 9 and a count outside
-    /// 1 to 4,096 are refused, in this order.
+    /// The offer, if its numbers are in their ranges. Shares outside 1 to 1,000,000, a class above 9 and a count outside 1 to
+    /// 4,096 are refused, in this order.
     pub fn new(offer: Offer) -> Result<ValidOffer, Refusal>
         ensures { Replies (offer_entries offer) (λ o. o.offer ≡ offer) result }
     {
@@ -30,7 +30,7 @@ impl ValidOffer {
         Ok(ValidOffer { offer })
     }
 
-    /// What the offer says, which is in its ranges.
+    /// The offer, whose numbers are in their ranges.
     pub fn offer(&self) -> Offer
         ensures value { result ≡ self.now.offer }
         ensures valid { Valid result }

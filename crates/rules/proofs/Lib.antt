@@ -1,5 +1,5 @@
 pub mod Named
-pub mod Separate
 pub mod Bids
-pub mod Ranked
-pub mod Lawfully
+pub mod Tests
+pub mod RankIsOneOrder
+pub mod PricesAreLawful

@@ -1,10 +1,10 @@
 -- The rank of two bids: five tests, and the first that separates them decides.
 --
--- Bid           as in the code: a client's number, its minimum, a count of frames, and what a price tells of its offer
+-- Bid           as in the code: a client's number and minimum, the count of frames of its offer, and a price's quote for it
 -- bid           the bid that a client with a minimum makes by an offer, under a price
 -- Test          a bid is tested against another, and wins or not
 -- by_minimum    a count up to the minimum wins against one beyond the minimum
--- by_class      the higher class told wins
+-- by_class      the higher class wins
 -- by_fraction   the larger fraction wins
 -- by_client     the lower client number wins
 -- by_count      the smaller count wins

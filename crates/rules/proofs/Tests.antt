@@ -2,7 +2,8 @@
 use Rattle.std.proofs.Common.{◌≡◌, true, false, List, [], ◌∷◌, refl, arith}
 use Rattle.rules.specs.Rank.{Bid, Test, ranks}
 
--- Who wins does not lose; and among the bids that P holds of, who wins against neither of two in a row wins not past both.
+-- Who wins does not lose. Among the bids that P holds of, who does not win against the next of three in a row, nor the
+-- next against the last, does not win against the last.
 pub record Weak (P : Bid → Type 0) (t : Test) : Type 0 where
   pub asym : (a b : Bid) → t a b ≡ true → t b a ≡ false
   pub past : (a b c : Bid) → P a → P b → P c → t a b ≡ false → t b c ≡ false → t a c ≡ false
@@ -11,7 +12,8 @@ abbrev pub Each : (P : Bid → Type 0) → List Test → Type 0
 Each P [] = Unit {0}
 Each P (t ∷ ts) = Weak P t × Each P ts
 
-pub ranks_asym : (P : Bid → Type 0) (ts : List Test) → Each P ts → (a b : Bid) → ranks ts a b ≡ true → ranks ts b a ≡ false
+pub ranks_asym : (P : Bid → Type 0) (ts : List Test) → Each P ts → (a b : Bid) →
+    ranks ts a b ≡ true → ranks ts b a ≡ false
 unfolding ranks
 ranks_asym P [] w a b h = refl
 ranks_asym P (t ∷ ts) w a b h =
