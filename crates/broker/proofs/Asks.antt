@@ -1,13 +1,15 @@
 -- Asks: who is outbid, and where a frame comes from.
-use Rattle.std.proofs.Common.{◌≡◌, ℕ, ◌+◌, ◌<◌, ◌≤◌, true, false, ◌≢◌, [], length, Some, None, Ok, sym, refl, ap, ◌∙◌, subst, inl, inr, arith}
+use Rattle.std.proofs.Common.{◌≡◌, ℕ, zero, suc, ◌+◌, ◌<◌, ◌≤◌, true, false, ◌≢◌, [], length, Some, None, Ok, Option, sym, refl, ap, ◌∙◌, subst, inl, inr, arith}
+use Rattle.std.specs.Option.{IsSome}
 use Rattle.std.proofs.lemmas.List.{nil_from_length}
-use Rattle.rules.specs.Offers.{Meaning}
+use Rattle.rules.specs.Offers.{Meaning, Valid, Lawful}
+use Rattle.rules.specs.declared.offer.Bid.{Bid}
+use Rattle.rules.specs.Rank.{bid, above}
 use Rattle.rules.specs.Refusals.{First, Clear}
 use Rattle.rules.specs.declared.refusal.Refusal.TheVariants.{AtMaximum, Outbid}
 use Rattle.rules.proofs.Named.{cleared, clear_after, first_after}
 use Rattle.laws.specs.Broker as rules
-use Rattle.rules.specs.Laws.{Made}
-use Rattle.laws.specs.Division.{bid_of}
+use Rattle.laws.specs.Division.{terms, minimum_of, offer_of}
 use Rattle.pool.specs.declared.pool.Pool.{Pool}
 use Rattle.pool.specs.View.{view as pool-view}
 use Rattle.laws.specs.Broker.{SlipNumbers, present, holding, LowestPayer, MayTake, IsOutbid}
@@ -15,18 +17,26 @@ use Rattle.laws.specs.Calls.{Ask, Granted, Step, accepted, entries, unpriced, pr
 use Rattle.laws.proofs.Kept.{low_of, high_of, held_of}
 use Rattle.ledger.specs.Ledgers.{stack_of}
 use Rattle.heap.specs.Heaps.{Least}
-use Rattle.price.specs.declared.telling.Price.{Ghosts}
+use Rattle.price.specs.declared.price.Price.{Ghosts}
 use Rattle.pool.specs.declared.member.Member.{Member}
 use Rattle.pool.specs.Records.{offer_at}
 use Rattle.pool.specs.Members.{member_of}
 use Rattle.pool.specs.View.{client_with, IsSource, Grants}
 use Rattle.pool.specs.View as grants
 use Rattle.pool.proofs.Tables.{client_is}
-use Rattle.price.specs.declared.key.Ranked.{Ranked}
-use Rattle.price.specs.Keys.{Keyed, KeyOf, outranks, leads}
+use Rattle.price.specs.declared.bid.ValidBid.{ValidBid}
+use Rattle.price.specs.Bids.{leads}
 use Rattle.broker.specs.Bids.{bid_in}
 use Rattle.broker.specs.View.{Broker, meaning, view}
 use Rattle.broker.proofs.Lowest.{next_bid, outbid_by_nobody, lowest_is, next_ranks, is_outbid, not_itself}
+
+-- where a frame may come from one lies
+pub granted_some : {m : Meaning} {v : rules.Broker} {c : ℕ} (p : ℕ) {o : Option SlipNumbers} {w : rules.Broker} → v.clients 0 ≡ None → Grants v c p o w → IsSource m v c p × (p ≢ c) → IsSome o
+granted_some p nobody (grants.free it top) from = refl
+granted_some p nobody (grants.from off it its top) from = refl
+granted_some p nobody (grants.nothing none) (inl (z, some), ne) = absurd (some (rw z at (none ne)))
+granted_some zero nobody (grants.nothing none) (inr (_, may), ne) = absurd (omega (arith, may.0.beyond, ap held_of nobody))
+granted_some (suc p) nobody (grants.nothing none) (inr (_, may), ne) = absurd (omega (arith, may.0.beyond, ap length (none ne)))
 
 -- a frame that was granted from where it may come from is a step
 pub granted_step : {m : Meaning} {v : rules.Broker} {c p : ℕ} {s : SlipNumbers} {w : rules.Broker} → v.clients 0 ≡ None → Grants v c p (Some s) w → IsClear m v (Ask c) × (IsSource m v c p × (p ≢ c)) → Step m v (Ask c) (Ok (Granted s)) w
@@ -40,9 +50,9 @@ pub granted_opens : {v : rules.Broker} {c p : ℕ} {s : SlipNumbers} {w : rules.
 granted_opens (grants.free it top) ne = (refl, ne)
 granted_opens (grants.from off it its top) ne = (refl, ne)
 
--- at every count of frames the bid of a client can be made
-bid_made : (b : Pool) (c : ℕ) (x : Member) → member_of b.members c ≡ Some x → (k : ℕ) → 1 ≤ k → k ≤ 4_096 → Made (bid_of (present (pool-view b)) c k)
-bid_made b c x e k low high =
+-- at every count of frames the offer of a client is one that a client can make
+offer_valid : (b : Pool) (c : ℕ) (x : Member) → member_of b.members c ≡ Some x → (k : ℕ) → 1 ≤ k → k ≤ 4_096 → Valid (offer_of (terms (present (pool-view b) c)) k)
+offer_valid b c x e k low high =
     rw e (record {
       some_shares = x.some_shares;
       few_shares = x.few_shares;
@@ -66,8 +76,8 @@ module _ {P : Type 0} {g : Ghosts P} (b : Broker P g) (c : ℕ) (clear : Clear (
   pub nobody_lower : ((o : ℕ) → bid_in b.bids o ≡ None) → First (entries m (view b) (Ask c)) Outbid
   nobody_lower none = last_refused (outbid_by_nobody m (view b) (bid_in b.bids) b.kept none c free)
 
-  module _ (k : Ranked) (found : (o : ℕ) × Least leads (bid_in b.bids) o k) {x : Member} (e : member_of b.pool.members c ≡ Some x) {h : ℕ} (held : h ≡ holding (view b) c) where
-    lowest : LowestPayer m (view b) k.client
+  module _ (k : ValidBid) (found : (o : ℕ) × Least leads (bid_in b.bids) o k) {x : Member} (e : member_of b.pool.members c ≡ Some x) {h : ℕ} (held : h ≡ holding (view b) c) where
+    lowest : LowestPayer m (view b) k.bid.client
     lowest = lowest_is m (view b) (bid_in b.bids) b.kept k found
 
     -- the asker
@@ -75,25 +85,25 @@ module _ {P : Type 0} {g : Ghosts P} (b : Broker P g) (c : ℕ) (clear : Clear (
     it = client_is b.pool c x e
 
     abbrev From : Type 0
-    From = IsClear m (view b) (Ask c) × (IsSource m (view b) c k.client × (k.client ≢ c))
+    From = IsClear m (view b) (Ask c) × (IsSource m (view b) c k.bid.client × (k.bid.client ≢ c))
 
-    from_payer : MayTake m (view b) c k.client → From
-    from_payer may =
+    from_payer : Lawful m → MayTake m (view b) c k.bid.client → From
+    from_payer l may =
         let few : holding (view b) c + 1 ≤ 4_096 = omega (arith, cleared (unpriced (view b) (Ask c)) AtMaximum clear, ap high_of it, x.few_frames) in
-        let other : k.client ≢ c = λ q. not_itself m (view b) (g.lawful b.price) c (bid_made b.pool c x e) few (rw q at may) in
-        (clear_after (unpriced (view b) (Ask c)) (priced m (view b) (Ask c)) clear (λ o. o.1 k.client may, tt), (inr (free, may), other))
+        let other : k.bid.client ≢ c = λ q. not_itself m (view b) l c (offer_valid b.pool c x e) few (rw q at may) in
+        (clear_after (unpriced (view b) (Ask c)) (priced m (view b) (Ask c)) clear (λ o. o.1 k.bid.client may, tt), (inr (free, may), other))
 
     -- below its minimum a client takes a frame of the lowest payer
-    pub taken_below : h < x.minimum → From
-    taken_below low = from_payer (lowest, inl (omega (arith, held, ap low_of it, low)))
+    pub taken_below : Lawful m → h < x.minimum → From
+    taken_below l low = from_payer l (lowest, inl (omega (arith, held, ap low_of it, low)))
 
-    module _ {j : Ranked} (key : Keyed m c x.minimum (offer_at x (h + 1)) j) where
+    module _ {j : Bid} (made : j ≡ bid m c x.minimum (offer_at x (h + 1))) where
       -- the asker's bid for a frame more
-      next : KeyOf m (next_bid m (view b) c) j
-      next = let tall = held ∙ ap held_of it in rw (e, ← tall) key
+      next : j ≡ next_bid m (view b) c
+      next = let tall = held ∙ ap held_of it in rw (minimum_of, e, ← tall) made
 
-      pub outbid_by_lowest : x.minimum ≤ h → outranks j k ≡ false → First (entries m (view b) (Ask c)) Outbid
-      outbid_by_lowest low under = last_refused (is_outbid m (view b) (bid_in b.bids) b.kept k found c j next (omega (arith, held, ap low_of it, low)) under free)
+      pub outbid_by_lowest : x.minimum ≤ h → above j k.bid ≡ false → First (entries m (view b) (Ask c)) Outbid
+      outbid_by_lowest low under = last_refused (is_outbid m (view b) (bid_in b.bids) b.kept k found c next (omega (arith, held, ap low_of it, low)) under free)
 
-      pub taken_above : outranks j k ≡ true → From
-      taken_above over = from_payer (lowest, inr (sym (next_ranks m (view b) (bid_in b.bids) b.kept k found c j next) ∙ over))
+      pub taken_above : Lawful m → above j k.bid ≡ true → From
+      taken_above l over = from_payer l (lowest, inr (sym (next_ranks m (view b) (bid_in b.bids) b.kept k found c next) ∙ over))

@@ -1,10 +1,11 @@
 -- The clock, one ended estimate after another.
 use Rattle.std.proofs.Common.{◌≡◌, ℕ, ◌+◌, ◌<◌, Some, None, Ok, Option, sym, ap, ◌∙◌, subst, arith}
+use Rattle.rules.specs.Offers.{Lawful}
 use Rattle.laws.specs.ByNumber.{total, put}
 use Rattle.laws.specs.Broker as rules
 use Rattle.laws.specs.Calls.{SetClock, Count, Step, IsClear, moved, ends, with_estimate}
 use Rattle.laws.proofs.Puts.{put_off}
-use Rattle.price.specs.declared.telling.Price.{Ghosts}
+use Rattle.price.specs.declared.price.Price.{Ghosts}
 use Rattle.pool.specs.Clocks.{DropsMany, DropsFrom, Drops, at_tick}
 use Rattle.pool.proofs.Clocks.{clocked_one, clocked_falls, clock_step}
 use Rattle.broker.specs.declared.bids.Bids.{Bids}
@@ -52,9 +53,9 @@ module _ {P : Type 0} {g : Ghosts P} where
   ticked_bids b t {w} set d = same_bid (meaning b) (view b) w d (rw set) (bid_in b.bids d) (b.kept d)
 
   -- all ended estimates dropped, and the tick set
-  pub clock_stepped : {t : ℕ} {b : Broker P g} {n : ℕ} {e d : Broker P g} → IsClear (meaning b) (view b) (SetClock t) → DropsAll t b n e → view d ≡ at_tick (view e) t → d.price ≡ e.price → Stepped b (SetClock t) (Ok (Count n)) d
-  clock_stepped {t} {b} {n} {e} clear (all, none) set price =
-      stepped
+  pub clock_stepped : {t : ℕ} {b : Broker P g} {n : ℕ} {e d : Broker P g} → Lawful (meaning d) → IsClear (meaning b) (view b) (SetClock t) → DropsAll t b n e → view d ≡ at_tick (view e) t → d.price ≡ e.price → Stepped b (SetClock t) (Ok (Count n)) d
+  clock_stepped {t} {b} {n} {e} l clear (all, none) set price =
+      stepped l
       (subst (λ (v : rules.Broker). Step (meaning b) (view b) (SetClock t) (Ok (Count n)) v) (sym (set ∙ ap (λ (v : rules.Broker). at_tick v t) all.rest))
       (clock_step (meaning b) (view b) t n (view e).clients clear all.many none))
       (price ∙ all.price)

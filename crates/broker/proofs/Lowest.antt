@@ -1,39 +1,37 @@
 -- What the bids say of the broker that the rules speak of.
-use Rattle.std.proofs.Common.{◌≡◌, ℕ, ◌+◌, ◌<◌, ◌≤◌, false, ◌≢◌, ◌⊎◌, [], Some, None, MatchOption, Option, sym, refl, ◌∙◌, subst, inl, inr, arith}
+use Rattle.std.proofs.Common.{◌≡◌, ℕ, ◌+◌, ◌<◌, ◌≤◌, false, ◌≢◌, ◌⊎◌, [], Some, None, MatchOption, Option, sym, refl, ap, ◌∙◌, subst, inl, inr, arith}
 use Rattle.std.proofs.lemmas.Bool.{not-true, both_ways}
-use Rattle.rules.specs.Offers.{Meaning, Lawful}
+use Rattle.rules.specs.Offers.{Meaning, Valid, Lawful}
 use Rattle.rules.specs.declared.offer.Bid.{Bid}
 use Rattle.rules.specs.Rank.{above, Above}
-use Rattle.rules.specs.Laws.{Made}
-use Rattle.rules.proofs.Ranked.{rank_is_one_order}
-use Rattle.laws.specs.Division.{terms, minimum_of, bid_of}
+use Rattle.rules.proofs.RankIsOneOrder.{rank_is_one_order}
+use Rattle.laws.specs.Division.{terms, minimum_of, offer_of, bid_of}
 use Rattle.laws.specs.Broker.{Broker, terms_of, new_broker, present, holding, Beyond, LowestPayer, MayTake, IsOutbid}
 use Rattle.laws.specs.Questions.{LowestIs}
 use Rattle.laws.proofs.Puts.{each_but}
 use Rattle.laws.proofs.One.{one_payer}
 use Rattle.heap.specs.Heaps.{Least}
-use Rattle.price.specs.declared.key.Ranked.{Ranked}
-use Rattle.price.specs.Keys.{KeyOf, outranks, leads}
-use Rattle.price.proofs.Ranks.{ranks_bids}
+use Rattle.price.specs.declared.bid.ValidBid.{ValidBid}
+use Rattle.price.specs.Bids.{leads}
 use Rattle.broker.specs.declared.bids.Bids.{Bids}
 use Rattle.broker.specs.Bids.{bid_in, IsBid, AreBids, Renews, IsLowest}
 
 module _ (m : Meaning) (v : Broker) where
   -- the bid of a client at its holding, and for a frame more
   abbrev pub bid : ℕ → Bid
-  bid c = bid_of (present v) c (holding v c)
+  bid c = bid_of m (present v) c (holding v c)
 
   abbrev pub next_bid : ℕ → Bid
-  next_bid c = bid_of (present v) c (holding v c + 1)
+  next_bid c = bid_of m (present v) c (holding v c + 1)
 
   -- who holds more than its minimum has its bid in
-  has_bid : (c : ℕ) (o : Option Ranked) → IsBid m v c o → Beyond v c → (k : Ranked) × (o ≡ Some k) × KeyOf m (bid c) k
+  has_bid : (c : ℕ) (o : Option ValidBid) → IsBid m v c o → Beyond v c → (k : ValidBid) × (o ≡ Some k) × (k.bid ≡ bid c)
   has_bid c None l g = absurd (l g)
   has_bid c (Some k) l g = (k, refl, l.1)
 
-  module _ (ks : ℕ → Option Ranked) (all : AreBids m v ks) where
+  module _ (ks : ℕ → Option ValidBid) (all : AreBids m v ks) where
     -- whose bid is in holds more than its minimum
-    bid_of_in : (c : ℕ) (k : Ranked) → ks c ≡ Some k → Beyond v c × KeyOf m (bid c) k
+    bid_of_in : (c : ℕ) (k : ValidBid) → ks c ≡ Some k → Beyond v c × (k.bid ≡ bid c)
     bid_of_in c k e = rw e at (all c)
 
     nobody_pays : ((o : ℕ) → ks o ≡ None) → (c : ℕ) → Beyond v c → ⊥
@@ -42,51 +40,51 @@ module _ (m : Meaning) (v : Broker) where
     pub outbid_by_nobody : ((o : ℕ) → ks o ≡ None) → (c : ℕ) → v.free ≡ [] → IsOutbid m v c
     outbid_by_nobody none c e = (e, λ p t. nobody_pays none p t.0.beyond)
 
-    module _ (k : Ranked) (found : (o : ℕ) × Least leads ks o k) where
+    module _ (k : ValidBid) (found : (o : ℕ) × Least leads ks o k) where
       -- the lowest bid says whose it is
-      least : Least leads ks k.client k
-      least = subst (λ (n : ℕ). Least leads ks n k) (sym (bid_of_in found.0 k found.1.has).1.client) found.1
+      least : Least leads ks k.bid.client k
+      least = subst (λ (n : ℕ). Least leads ks n k) (sym (ap (λ b. b.client) (bid_of_in found.0 k found.1.has).1)) found.1
 
-      pub lowest_is : LowestPayer m v k.client
+      pub lowest_is : LowestPayer m v k.bid.client
       lowest_is =
-          let (beyond, own) = bid_of_in k.client k least.has in
+          let (beyond, own) = bid_of_in k.bid.client k least.has in
           record {
             beyond = beyond;
             lowest = λ d g.
                 let (j, e, u) = has_bid d (ks d) (all d) g in
-                sym (ranks_bids k j m (bid k.client) (bid d) own u) ∙ not-true (outranks k j) (least.leads d j e);
+                rw (← own, ← u) (not-true (above k.bid j.bid) (least.leads d j e));
           }
 
-      module _ (c : ℕ) (j : Ranked) (next : KeyOf m (next_bid c) j) where
+      module _ (c : ℕ) {j : Bid} (next : j ≡ next_bid c) where
         -- the rank of a client's next bid over the lowest is that of the rules
-        pub next_ranks : outranks j k ≡ above m (next_bid c) (bid k.client)
-        next_ranks = ranks_bids j k m (next_bid c) (bid k.client) next (bid_of_in k.client k least.has).1
+        pub next_ranks : above j k.bid ≡ above (next_bid c) (bid k.bid.client)
+        next_ranks = rw (← next, ← (bid_of_in k.bid.client k least.has).1) refl
 
-        pub is_outbid : minimum_of (present v) c ≤ holding v c → outranks j k ≡ false → v.free ≡ [] → IsOutbid m v c
+        pub is_outbid : minimum_of (present v) c ≤ holding v c → above j k.bid ≡ false → v.free ≡ [] → IsOutbid m v c
         is_outbid low under e = (e, λ q t. refuse q t.0 t.1)
           where
-            refuse : (q : ℕ) → LowestPayer m v q → (holding v c < minimum_of (present v) c) ⊎ Above m (next_bid c) (bid q) → ⊥
+            refuse : (q : ℕ) → LowestPayer m v q → (holding v c < minimum_of (present v) c) ⊎ Above (next_bid c) (bid q) → ⊥
             refuse q l (inl g) = omega arith
-            refuse q l (inr g) = both_ways (outranks j k) under (next_ranks ∙ rw (one_payer m v q k.client l lowest_is) at g)
+            refuse q l (inr g) = both_ways (above j k.bid) under (next_ranks ∙ rw (one_payer m v q k.bid.client l lowest_is) at g)
 
     -- the client of the lowest bid, where there is one, is the lowest payer
-    pub lowest_told : (o : Option Ranked) (r : Option ℕ) → IsLowest ks o →
-        MatchOption o (r ≡ None) (λ k. r ≡ Some k.client) → LowestIs m v r
+    pub lowest_told : (o : Option ValidBid) (r : Option ℕ) → IsLowest ks o →
+        MatchOption o (r ≡ None) (λ k. r ≡ Some k.bid.client) → LowestIs m v r
     lowest_told (Some k) r found told = rw told (lowest_is k found)
     lowest_told None r none told = rw told (nobody_pays none)
 
   -- who may take a frame does not take it from itself
-  pub not_itself : Lawful m → (c : ℕ) → ((k : ℕ) → 1 ≤ k → k ≤ 4_096 → Made (bid_of (present v) c k)) → holding v c + 1 ≤ 4_096 → MayTake m v c c → ⊥
+  pub not_itself : Lawful m → (c : ℕ) → ((k : ℕ) → 1 ≤ k → k ≤ 4_096 → Valid (offer_of (terms (present v c)) k)) → holding v c + 1 ≤ 4_096 → MayTake m v c c → ⊥
   not_itself l c made few (lowest, inl g) = let far = lowest.beyond in omega arith
   not_itself l c made few (lowest, inr g) =
       let far = lowest.beyond in
       let now = made (holding v c) (omega arith) (omega arith) in
       let next = made (holding v c + 1) (omega arith) few in
-      (rank_is_one_order m l).one_way (next_bid c) (bid c) next now g
-      ((rank_is_one_order m l).own_fall c (terms (present v c)) (holding v c) (holding v c + 1) now next (omega arith))
+      rank_is_one_order.one_way (next_bid c) (bid c) g
+      (rank_is_one_order.own_fall m l c (minimum_of (present v) c) (offer_of (terms (present v c)) (holding v c)) (holding v c) (holding v c + 1) now next (omega arith))
 
 -- a client's bid depends on that client alone
-pub same_bid : (m : Meaning) (v w : Broker) (c : ℕ) → w.clients c ≡ v.clients c → (o : Option Ranked) → IsBid m v c o → IsBid m w c o
+pub same_bid : (m : Meaning) (v w : Broker) (c : ℕ) → w.clients c ≡ v.clients c → (o : Option ValidBid) → IsBid m v c o → IsBid m w c o
 same_bid m v w c e None l = rw (e, minimum_of, terms_of) l
 same_bid m v w c e (Some k) l = rw (e, minimum_of, terms_of, terms) l
 
@@ -94,5 +92,5 @@ same_bid m v w c e (Some k) l = rw (e, minimum_of, terms_of, terms) l
 pub renewed : {m : Meaning} {w : Broker} {c : ℕ} {p q : Bids} → Renews m w c p q → ((d : ℕ) → d ≢ c → IsBid m w d (bid_in p d)) → AreBids m w (bid_in q)
 renewed {m} {w} {c} {p} {q} r others = each_but c (λ d. IsBid m w d (bid_in q d)) r.anew (λ d ne. rw (r.others d ne) (others d ne))
 
-pub no_bids : (m : Meaning) (ks : ℕ → Option Ranked) → ((c : ℕ) → ks c ≡ None) → AreBids m new_broker ks
+pub no_bids : (m : Meaning) (ks : ℕ → Option ValidBid) → ((c : ℕ) → ks c ≡ None) → AreBids m new_broker ks
 no_bids m ks none c = rw (none c) (omega arith)

@@ -11,8 +11,8 @@ use Rattle.laws.specs.Calls.{Step, Call, Start, Admit, Ask, Deliver, HandBack, L
 use Rattle.laws.proofs.Refused.{denied}
 use Rattle.laws.proofs.Kept.{held_of}
 use Rattle.laws.proofs.Puts.{each_but, put_at, put_off}
-use Rattle.price.specs.declared.key.Ranked.{Ranked}
-use Rattle.price.specs.declared.telling.Price.{Ghosts}
+use Rattle.price.specs.declared.bid.ValidBid.{ValidBid}
+use Rattle.price.specs.declared.price.Price.{Ghosts}
 use Rattle.broker.specs.declared.bids.Bids.{Bids}
 use Rattle.broker.specs.Bids.{bid_in, IsBid, AreBids, Renews}
 use Rattle.broker.specs.View.{Broker, meaning, view}
@@ -57,6 +57,6 @@ admitted_bids b (Calls.refused q) = b.kept
 admitted_bids b {x} {a} {w} (Calls.accepted clear Calls.admitted) =
     each_but x.client (λ d. IsBid (meaning b) w d (bid_in b.bids d)) (fresh (bid_in b.bids x.client) (b.kept x.client)) (spared b (Calls.accepted clear Calls.admitted))
   where
-    fresh : (o : Option Ranked) → IsBid (meaning b) (view b) x.client o → IsBid (meaning b) w x.client o
+    fresh : (o : Option ValidBid) → IsBid (meaning b) (view b) x.client o → IsBid (meaning b) w x.client o
     fresh None _ = rw put_at (omega arith)
     fresh (Some j) was = absurd (denied (meaning b) (view b) (Admit x) AlreadyAdmitted clear (λ none. omega (arith, was.0, ap held_of none)))

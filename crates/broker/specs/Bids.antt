@@ -12,30 +12,30 @@ use Rattle.std.specs.Prelude.{◌≡◌, ℕ, ◌≢◌, Some, None, Option}
 use Rattle.std.specs.Coded.{Π_prop, ×_prop, le_prop}
 use mathlib.Core.HLevel.{⊥_prop}
 use Rattle.rules.specs.Offers.{Meaning}
+use Rattle.rules.proofs.Bids.{Bid-set}
 use Rattle.laws.specs.Division.{bid_of}
 use Rattle.laws.specs.Broker as rules
 use Rattle.laws.specs.Broker.{present, holding, Beyond}
 use Rattle.heap.specs.Heaps.{Least}
 use Rattle.heap.specs.Indexed.{keys_in}
-use Rattle.price.specs.declared.key.Ranked.{Ranked}
-use Rattle.price.specs.Keys.{KeyOf, leads}
-use Rattle.price.proofs.Ranks.{Keyed-prop}
+use Rattle.price.specs.declared.bid.ValidBid.{ValidBid}
+use Rattle.price.specs.Bids.{leads}
 use Rattle.pool.specs.declared.pool.Pool.{Pool}
 use Rattle.pool.specs.View.{view}
 pub use Rattle.broker.specs.declared.bids.Bids.{Bids}
 
-abbrev pub bid_in : Bids → ℕ → Option Ranked
+abbrev pub bid_in : Bids → ℕ → Option ValidBid
 bid_in p = keys_in p.heap
 
-abbrev pub IsLowest : (ℕ → Option Ranked) → Option Ranked → Type 0
+abbrev pub IsLowest : (ℕ → Option ValidBid) → Option ValidBid → Type 0
 IsLowest ks (Some k) = (c : ℕ) × Least leads ks c k
 IsLowest ks None = (c : ℕ) → ks c ≡ None
 
-abbrev pub IsBid : Meaning → rules.Broker → ℕ → Option Ranked → Type 0
+abbrev pub IsBid : Meaning → rules.Broker → ℕ → Option ValidBid → Type 0
 IsBid m v c None = Beyond v c → ⊥
-IsBid m v c (Some k) = Beyond v c × KeyOf m (bid_of (present v) c (holding v c)) k
+IsBid m v c (Some k) = Beyond v c × (k.bid ≡ bid_of m (present v) c (holding v c))
 
-abbrev pub AreBids : Meaning → rules.Broker → (ℕ → Option Ranked) → Type 0
+abbrev pub AreBids : Meaning → rules.Broker → (ℕ → Option ValidBid) → Type 0
 AreBids m v ks = (c : ℕ) → IsBid m v c (ks c)
 
 pub record Renews (m : Meaning) (v : rules.Broker) (c : ℕ) (before after : Bids) : Type 0 where
@@ -46,11 +46,11 @@ abbrev pub KeepsBids : Meaning → Pool → Bids → Type 0
 KeepsBids m b p = AreBids m (view b) (bid_in p)
 
 -- A client's bid is so in one way at most, so that a broker can keep it.
-IsBid-prop : (m : Meaning) (v : rules.Broker) (c : ℕ) (o : Option Ranked) → IsProp (IsBid m v c o)
+IsBid-prop : (m : Meaning) (v : rules.Broker) (c : ℕ) (o : Option ValidBid) → IsProp (IsBid m v c o)
 IsBid-prop m v c None = Π_prop (λ _. ⊥_prop)
-IsBid-prop m v c (Some k) = ×_prop le_prop (Keyed-prop m _ _ _ k)
+IsBid-prop m v c (Some k) = ×_prop le_prop (Bid-set _ _)
 
-AreBids-prop : (m : Meaning) (v : rules.Broker) (ks : ℕ → Option Ranked) → IsProp (AreBids m v ks)
+AreBids-prop : (m : Meaning) (v : rules.Broker) (ks : ℕ → Option ValidBid) → IsProp (AreBids m v ks)
 AreBids-prop m v ks = Π_prop (λ c. IsBid-prop m v c (ks c))
 
 pub KeepsBids-prop : (m : Meaning) (b : Pool) (p : Bids) → IsProp (KeepsBids m b p)

@@ -2,7 +2,7 @@
 --
 -- PlainBroker   as in the code
 -- broker_of     the broker that it holds
-use Rattle.price.specs.declared.telling.Price.{Ghosts}
+use Rattle.price.specs.declared.price.Price.{Ghosts}
 use Rattle.broker.specs.View.{Broker}
 pub use Rattle.broker.specs.declared.plain.PlainBroker.{PlainBroker}
 

@@ -25,7 +25,7 @@ use Rattle.laws.specs.Calls.{Call, Ask, Answer, Done, Step, moved, ends, entries
 use Rattle.laws.specs.Questions.{price_at}
 use Rattle.laws.specs.Histories.{Event, event, Run}
 use Rattle.laws.specs.Guarantees.{Guarantees}
-use Rattle.price.specs.declared.telling.Price.{Ghosts}
+use Rattle.price.specs.declared.price.Price.{Ghosts}
 use Rattle.pool.specs.View as pool
 use Rattle.pool.specs.View.{IsSource}
 use Rattle.pool.specs.Clocks.{DropsMany}

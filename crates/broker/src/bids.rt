@@ -1,27 +1,27 @@
 //! The bids of the clients that hold more than their minimums.
 ghost use Rattle.std.specs.Prelude.{◌≡◌, ℕ, ◌≤◌, None};
-ghost use Rattle.price.specs.Keys.{Keyed};
+ghost use Rattle.rules.specs.Rank as rank;
 ghost use Rattle.pool.specs.Records.{offer_at};
 ghost use Rattle.pool.specs.View.{view};
 
 use heap::IndexedHeap;
 use pool::{Member, Pool};
-use price::{Price, Ranked, ValidOffer};
-use rules::Quote;
+use price::{Price, ValidBid, ValidOffer};
+use rules::{Bid, Quote};
 
 /// Bids by client number, in fixed memory, the lowest first.
 #[derive(Drop)]
 pub(crate) struct Bids {
-    heap: IndexedHeap<Ranked, 257>,
+    heap: IndexedHeap<ValidBid, 257>,
 }
 
 /// The bid of a client at a count of frames.
-pub(crate) fn bid<P: Price>(price: &P, client: u32, member: Member, count: u32) -> Ranked
+pub(crate) fn bid<P: Price>(price: &P, client: u32, member: Member, count: u32) -> ValidBid
     requires { (1 ≤ count) × (count ≤ 4_096) }
-    ensures { Keyed (P.Price.meaning price.now) client member.minimum (offer_at member count) result }
+    ensures { result.bid ≡ rank.bid (P.Price.meaning price.now) client member.minimum (offer_at member count) }
 {
-    let offer = ValidOffer::known(member.offer(count));
-    Ranked::new(price, client, member.minimum, offer)
+    let offer = ValidOffer::new(member.offer(count)).unwrap();
+    ValidBid::new(price, client, member.minimum, offer)
 }
 
 impl Bids {
@@ -31,18 +31,19 @@ impl Bids {
     pub(crate) fn new() -> Bids
         ensures { (c : ℕ) → bid_in result c ≡ None }
     {
-        let unused = Ranked {
+        let quote = Quote {
+            class: 0,
+            top: 0,
+            bottom: 1,
+        };
+        let unused = Bid {
             client: 0,
             minimum: 0,
             count: 0,
-            quote: Quote {
-                class: 0,
-                top: 0,
-                bottom: 1,
-            },
+            quote,
         };
         Bids {
-            heap: IndexedHeap::new(unused),
+            heap: IndexedHeap::new(ValidBid { bid: unused }),
         }
     }
 
@@ -63,7 +64,7 @@ impl Bids {
     }
 
     /// The lowest bid, if there is any.
-    pub(crate) fn lowest(&self) -> Option<Ranked>
+    pub(crate) fn lowest(&self) -> Option<ValidBid>
         ensures { IsLowest (bid_in self.now) result }
     {
         self.heap.root().map(|(_, bid)| *bid)

@@ -86,7 +86,7 @@ impl<P: Price> Broker<P> {
                 return Err(Refusal::Outbid);
             }
         }
-        Ok(lowest.client)
+        Ok(lowest.bid.client)
     }
 
     /// Grants a client a frame, by the plain numbers of its slip.
@@ -235,7 +235,7 @@ impl<P: Price> Broker<P> {
             return Err(Refusal::CountOutOfRange);
         }
         let member = self.pool.member(client)?;
-        let offer = ValidOffer::known(member.offer(count));
+        let offer = ValidOffer::new(member.offer(count)).unwrap();
         Ok(self.price.quote(offer))
     }
 
@@ -244,6 +244,6 @@ impl<P: Price> Broker<P> {
     pub fn lowest_payer(&self) -> Option<u32>
         ensures { LowestIs (meaning self.now) (view self.now) result }
     {
-        self.bids.lowest().map(|bid| bid.client)
+        self.bids.lowest().map(|lowest| lowest.bid.client)
     }
 }

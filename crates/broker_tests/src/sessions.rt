@@ -7,7 +7,7 @@ use rules::{Answer, Quote, Refusal};
 use std::process::Abort;
 use std::test::Fail;
 
-fn quote(class: u8, top: u32, bottom: u32) -> Quote {
+fn quote(class: u32, top: u32, bottom: u32) -> Quote {
     Quote { class, top, bottom }
 }
 

@@ -11,7 +11,7 @@ use Rattle.laws.specs.Calls.{Answer, Step}
 use Rattle.laws.specs.Histories.{Event, event, Run, start, then, reached}
 use Rattle.laws.proofs.Guaranteed.{histories_keep_guarantees}
 use Rattle.laws.proofs.Puts.{put_at, put_off, put_each}
-use Rattle.price.specs.declared.telling.Price.{Ghosts}
+use Rattle.price.specs.declared.price.Price.{Ghosts}
 use Rattle.broker.specs.View.{meaning, view}
 use Rattle.broker.specs.declared.plain.PlainBroker.{PlainBroker}
 use Rattle.broker.specs.Plain.{broker_of}

@@ -21,7 +21,7 @@ use Rattle.laws.specs.Broker.{Broker, new_broker}
 use Rattle.laws.specs.Calls.{Answer, Step}
 use Rattle.laws.specs.Histories.{Event, event, Run, reached}
 use Rattle.laws.specs.Guarantees.{Guarantees}
-use Rattle.price.specs.declared.telling.Price.{Ghosts}
+use Rattle.price.specs.declared.price.Price.{Ghosts}
 use Rattle.broker.specs.View.{view}
 use Rattle.broker.specs.declared.plain.PlainBroker.{PlainBroker}
 use Rattle.broker.specs.Plain.{broker_of}

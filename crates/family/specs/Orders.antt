@@ -7,7 +7,7 @@ use Rattle.std.specs.Prelude.{◌≡◌, ℕ, ◌<◌, ◌≤◌, List, length, 
 use Rattle.rules.specs.declared.refusal.Refusal.{Refusal}
 use Rattle.laws.specs.Broker.{new_broker}
 use Rattle.laws.specs.Calls.{Answer}
-use Rattle.price.specs.declared.telling.Price.{Ghosts}
+use Rattle.price.specs.declared.price.Price.{Ghosts}
 use Rattle.broker.specs.View.{view, Stepped}
 use Rattle.broker.specs.declared.plain.PlainBroker.{PlainBroker}
 use Rattle.broker.specs.Plain.{broker_of}

@@ -70,7 +70,7 @@ module _ (m : Meaning) (l : Lawful m) (b : Broker) (k : Kept b) where
 
   -- c is below its minimum, or outbids p
   abbrev Beats : ℕ → ℕ → Type 0
-  Beats c p = (holding b c < minimum_of (present b) c) ⊎ (above m (bid_of (present b) c (holding b c + 1)) (bid_of (present b) p (holding b p)) ≡ true)
+  Beats c p = (holding b c < minimum_of (present b) c) ⊎ (above (bid_of m (present b) c (holding b c + 1)) (bid_of m (present b) p (holding b p)) ≡ true)
 
   -- c may take a frame of someone, or of no one
   abbrev Taking : ℕ → Type 0

@@ -22,8 +22,8 @@ use Rattle.laws.proofs.Runs.{ask_room, contest_of, cap_is, held_fits, history_ke
 abbrev Takes : Meaning → Clients → (ℕ → ℕ) → ℕ → ℕ → Type 0
 Takes m cs h c p =
     (minimum_of cs p < h p)
-    × ((d : ℕ) → minimum_of cs d < h d → above m (bid_of cs p (h p)) (bid_of cs d (h d)) ≡ false)
-    × ((h c < minimum_of cs c) ⊎ (above m (bid_of cs c (h c + 1)) (bid_of cs p (h p)) ≡ true))
+    × ((d : ℕ) → minimum_of cs d < h d → above (bid_of m cs p (h p)) (bid_of m cs d (h d)) ≡ false)
+    × ((h c < minimum_of cs c) ⊎ (above (bid_of m cs c (h c + 1)) (bid_of m cs p (h p)) ≡ true))
 
 -- a stretch from b, in which nobody's terms change
 module _ (m : Meaning) (l : Lawful m) (b : Broker) (kb : Kept b) where

@@ -5,14 +5,13 @@ use lib.ListN.{length-reverse}
 use Rattle.std.specs.List.{range_with_len}
 use Rattle.std.proofs.lemmas.List.FromFn.{length-range_with_len}
 use Rattle.std.proofs.lemmas.Option.{same_Some}
-use Rattle.rules.specs.declared.offer.Terms.{Terms}
 use Rattle.rules.specs.declared.refusal.Refusal.{Refusal}
 use Rattle.rules.specs.declared.refusal.Refusal.TheVariants.{PoolOutOfRange, ClientOutOfRange, SharesOutOfRange, ClassOutOfRange, MaximumOutOfRange, AlreadyStarted, AlreadyAdmitted, MaximumAboveFrames, MinimumsAboveFrames}
 use Rattle.rules.specs.Offers.{Meaning}
 use Rattle.rules.specs.Refusals.{Outside}
 use Rattle.rules.proofs.Named.{When}
 use Rattle.laws.specs.ByNumber.{total, Numbered, put}
-use Rattle.laws.specs.Division.{Clients, Admissible, terms}
+use Rattle.laws.specs.Division.{Terms, Clients, Admissible, terms}
 use Rattle.laws.specs.Broker.{Broker, Client, new_broker, terms_of, stack_of}
 use Rattle.laws.specs.Calls.{Start, Admit, Admission, IsClear, entries, newcomer, with_stack}
 use Rattle.laws.proofs.Sums.{upto_zero}

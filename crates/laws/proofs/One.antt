@@ -3,7 +3,7 @@ use Rattle.std.proofs.Common.{◌≡◌, ℕ, ◌⊎◌, List, [], ◌∷◌, sy
 use Rattle.rules.specs.declared.refusal.Refusal.{Refusal}
 use Rattle.rules.specs.Offers.{Meaning}
 use Rattle.rules.specs.Refusals.{Entry, First, Clear}
-use Rattle.rules.proofs.Ranked.{decided}
+use Rattle.rules.proofs.RankIsOneOrder.{decided}
 use Rattle.laws.specs.Division.{bid_of}
 use Rattle.laws.specs.Broker.{Broker, holding, present, LowestPayer}
 use Rattle.laws.specs.Calls
@@ -25,7 +25,7 @@ first_or_clear (e ∷ es) r (inr u) v = first_or_clear es r u.1 v.1
 -- there is one lowest payer
 pub one_payer : (m : Meaning) (b : Broker) (p q : ℕ) → LowestPayer m b p → LowestPayer m b q → p ≡ q
 one_payer m b p q u v =
-    grind (arith, decided m (bid_of (present b) p (holding b p)) (bid_of (present b) q (holding b q)), u.lowest q v.beyond, v.lowest p u.beyond)
+    grind (arith, decided (bid_of m (present b) p (holding b p)) (bid_of m (present b) q (holding b q)), u.lowest q v.beyond, v.lowest p u.beyond)
 
 module _ (m : Meaning) (b : Broker) where
   -- an accepted call has one effect

@@ -2,10 +2,9 @@
 use Rattle.std.proofs.Common.{◌≡◌, ℕ, ◌^◌, ◌<◌, Some, None, Option, length, refl, ap, subst, arith}
 use Rattle.std.proofs.lemmas.Option.{same_Some}
 use Rattle.std.proofs.lemmas.Bool.Decides.{nat_tests}
-use Rattle.rules.specs.declared.offer.Terms.{Terms}
 use Rattle.rules.specs.declared.refusal.Refusal.TheVariants.{ActiveAboveFrames}
 use Rattle.rules.specs.Offers.{Meaning}
-use Rattle.laws.specs.Division.{Admissible, terms}
+use Rattle.laws.specs.Division.{Terms, Admissible, terms}
 use Rattle.laws.specs.Broker.{Estimate, Broker, Client, active_of, terms_of, stack_of}
 use Rattle.laws.specs.Calls
 use Rattle.laws.specs.Calls.{Call, Deliver, SetEstimate, SetClock, Answer, Effect, IsClear, lasting, lasts, with_estimate}

@@ -4,11 +4,10 @@ use Rattle.std.proofs.lemmas.Bool.{cases_lt}
 use Rattle.std.proofs.lemmas.Bool.Decides.{nat_tests}
 use Rattle.rules.specs.declared.refusal.Refusal.{Refusal}
 use Rattle.rules.specs.declared.refusal.Refusal.TheVariants.{AlreadyAdmitted}
-use Rattle.rules.specs.Offers.{Meaning, Lawful}
-use Rattle.rules.specs.Rank.{above, ranks, offer_of}
-use Rattle.rules.specs.Laws.{Made}
+use Rattle.rules.specs.Offers.{Meaning, Valid, Lawful}
+use Rattle.rules.specs.Rank.{above, ranks}
 use Rattle.laws.specs.ByNumber.{total, put}
-use Rattle.laws.specs.Division.{Clients, terms, minimum_of, capped, bid_of}
+use Rattle.laws.specs.Division.{Clients, terms, minimum_of, capped, offer_of, bid_of}
 use Rattle.laws.specs.Broker.{Broker, Client, new_broker, present, holding, maximum_of, shares_of, all_shares, share_of, MinimumsWithin, MayTake}
 use Rattle.laws.specs.Calls
 use Rattle.laws.specs.Calls.{Call, Admit, HandBack, Leave, Answer, Step, Absent, newcomer, with_stack}
@@ -16,7 +15,7 @@ use Rattle.laws.specs.Histories.{Event, event, Run, start, then, reached, Each, 
 use Rattle.laws.specs.Guarantees.{TellsShare}
 use Rattle.laws.proofs.Puts.{put_off, put_each}
 use Rattle.laws.proofs.Contest.{Can}
-use Rattle.laws.proofs.Unique.{made, admissible}
+use Rattle.laws.proofs.Unique.{valid, admissible}
 use Rattle.laws.proofs.Shares.{outbid_has_part, loser_had_more}
 use Rattle.laws.proofs.Refused.{denied}
 use Rattle.laws.proofs.Kept.{Kept, new_kept, high_of, held_of, none_some, some_there, same_terms}
@@ -36,19 +35,19 @@ record Stays (c : ℕ) (d e : Broker) : Type 0 where
 
 module _ (m : Meaning) (l : Lawful m) (share_told : TellsShare m) where
   -- beyond the minimums, the larger fraction of shares over count ranks above
-  fraction_ranks : (cs : Clients) (c j d k : ℕ) → Made (bid_of cs c j) → Made (bid_of cs d k) → minimum_of cs c < j → minimum_of cs d < k →
-      (terms (cs d)).shares * j < (terms (cs c)).shares * k → above m (bid_of cs c j) (bid_of cs d k) ≡ true
+  fraction_ranks : (cs : Clients) (c j d k : ℕ) → Valid (offer_of (terms (cs c)) j) → Valid (offer_of (terms (cs d)) k) → minimum_of cs c < j → minimum_of cs d < k →
+      (terms (cs d)).shares * j < (terms (cs c)).shares * k → above (bid_of m cs c j) (bid_of m cs d k) ≡ true
   unfolding above ranks
   fraction_ranks cs c j d k v w p q h =
-      let e = share_told (offer_of (bid_of cs c j)) v in
-      let f = share_told (offer_of (bid_of cs d k)) w in
+      let e = share_told (offer_of (terms (cs c)) j) v in
+      let f = share_told (offer_of (terms (cs d)) k) w in
       rw (e, f) (grind (arith, nat_tests))
 
   module _ (b : Broker) (k : Kept b) (w : MinimumsWithin b) where
     fraction : (c j d i : ℕ) → Can (capped b.frames (present b)) c j → Can (capped b.frames (present b)) d i → minimum_of (present b) c < j → minimum_of (present b) d < i →
-        shares_of b d * j < shares_of b c * i → above m (bid_of (present b) c j) (bid_of (present b) d i) ≡ true
+        shares_of b d * j < shares_of b c * i → above (bid_of m (present b) c j) (bid_of m (present b) d i) ≡ true
     fraction c j d i p q =
-        let can_make = made m l b.frames k.small (present b) (all_sound m l b k) in
+        let can_make = valid m l b.frames k.small (present b) (all_sound m l b k) in
         fraction_ranks (present b) c j d i (can_make c j p) (can_make d i q)
 
     some_shares : (c : ℕ) → 1 ≤ capped b.frames (present b) c → 1 ≤ shares_of b c

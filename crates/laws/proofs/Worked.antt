@@ -24,7 +24,7 @@ between F cs n c = cond (leb (minimum_of cs c) (n c)) (leb (n c) (capped F cs c)
 
 -- no frame would go from one client to another
 stands : (m : Meaning) (F : ℕ) (cs : Clients) (n : ℕ → ℕ) → ℕ → ℕ → Bool
-stands m F cs n c d = cond (eqb c d) true (cond (ltb (minimum_of cs c) (n c)) (cond (ltb (n d) (capped F cs d)) (above m (bid_of cs c (n c)) (bid_of cs d (n d + 1))) true) true)
+stands m F cs n c d = cond (eqb c d) true (cond (ltb (minimum_of cs c) (n c)) (cond (ltb (n d) (capped F cs d)) (above (bid_of m cs c (n c)) (bid_of m cs d (n d + 1))) true) true)
 
 -- with no client from 4 on, computing settles it
 settled_by : (m : Meaning) (F : ℕ) (cs : Clients) (n : ℕ → ℕ) → ((c : ℕ) → 4 ≤ c → (cs c ≡ None) × (n c ≡ 0)) →

@@ -26,10 +26,9 @@ pub use Rattle.rules.specs.declared.call.Estimate.{Estimate}
 pub use Rattle.rules.specs.declared.call.SlipNumbers.{SlipNumbers}
 use Rattle.rules.specs.Offers.{Meaning}
 use Rattle.rules.specs.declared.offer.Bid.{Bid}
-use Rattle.rules.specs.declared.offer.Terms.{Terms}
 use Rattle.rules.specs.Rank.{Above, above}
 use Rattle.laws.specs.ByNumber.{total}
-use Rattle.laws.specs.Division.{Clients, terms, minimum_of, bid_of}
+use Rattle.laws.specs.Division.{Terms, Clients, terms, minimum_of, bid_of}
 
 pub record Client : Type 0 where
   pub shares : ℕ
@@ -90,21 +89,21 @@ MinimumsWithin b = (c : ℕ) → minimum_of (present b) c * all_shares b ≤ b.f
 abbrev pub Beyond : Broker → ℕ → Type 0
 Beyond b c = minimum_of (present b) c < holding b c
 
-abbrev pub holder_bid : Broker → ℕ → Bid
-holder_bid b c = bid_of (present b) c (holding b c)
+abbrev pub holder_bid : Meaning → Broker → ℕ → Bid
+holder_bid m b c = bid_of m (present b) c (holding b c)
 
-abbrev pub asker_bid : Broker → ℕ → Bid
-asker_bid b c = bid_of (present b) c (holding b c + 1)
+abbrev pub asker_bid : Meaning → Broker → ℕ → Bid
+asker_bid m b c = bid_of m (present b) c (holding b c + 1)
 
 pub record LowestPayer (m : Meaning) (b : Broker) (p : ℕ) : Type 0 where
   pub beyond : Beyond b p
-  pub lowest : (d : ℕ) → Beyond b d → above m (holder_bid b p) (holder_bid b d) ≡ false
+  pub lowest : (d : ℕ) → Beyond b d → above (holder_bid m b p) (holder_bid m b d) ≡ false
 
 -- A client below its minimum may take one outright. Any other must outrank the lowest payer's bid at its holding by its
 -- own bid at one frame more than it holds.
 abbrev pub MayTake : Meaning → Broker → ℕ → ℕ → Type 0
 MayTake m b c p =
-    LowestPayer m b p × ((holding b c < minimum_of (present b) c) ⊎ Above m (asker_bid b c) (holder_bid b p))
+    LowestPayer m b p × ((holding b c < minimum_of (present b) c) ⊎ Above (asker_bid m b c) (holder_bid m b p))
 
 abbrev pub IsOutbid : Meaning → Broker → ℕ → Type 0
 IsOutbid m b c = (b.free ≡ []) × ((p : ℕ) → MayTake m b c p → ⊥)

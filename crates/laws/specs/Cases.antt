@@ -14,12 +14,11 @@ use Rattle.std.specs.Prelude.{◌≡◌, ℕ, ◌+◌, ◌-◌, ◌^◌, ◌≤�
 use Rattle.std.specs.List.{range_with_len}
 use Rattle.rules.specs.declared.offer.Offer.{Offer}
 use Rattle.rules.specs.declared.offer.Quote.{Quote}
-use Rattle.rules.specs.declared.offer.Terms.{Terms}
 use Rattle.rules.specs.declared.refusal.Refusal.{Refusal}
 use Rattle.rules.specs.declared.refusal.Refusal.TheVariants.{NotAdmitted, AtMaximum, Outbid, HoldsNoFrame}
 use Rattle.rules.specs.Prices.{share, taxed, classed}
 use Rattle.laws.specs.ByNumber.{total}
-use Rattle.laws.specs.Division.{Clients, Settled}
+use Rattle.laws.specs.Division.{Terms, Clients, Settled}
 use Rattle.laws.specs.Broker.{Client, Broker, Estimate, SlipNumbers, new_broker, share_of, MinimumsWithin}
 use Rattle.laws.specs.Calls.{Admission, Call, Start, Admit, Ask, Deliver, HandBack, Leave, SetEstimate, SetClock, Answer, Frame, Count}
 use Rattle.laws.specs.Histories.{Event, event, Throughout, AskOrDelivery, AcceptsOnlyAsks, TurnedAway, AtRest, Keeps}

@@ -1,19 +1,28 @@
 -- The settled division of frames among clients with their terms.
 --
+-- Terms           a client's shares, class, minimum, maximum, and active count or none
 -- Clients         the clients' terms by their numbers, where a number has a client
 -- terms           a client's terms; a number without a client counts as one with terms of 0
 -- minimum_of      a client's minimum
 -- capped          a client's maximum, or the number of frames where that is less
--- bid_of          a client's bid at a count
+-- offer_of        the offer of a client with these terms at a count
+-- bid_of          a client's bid at a count, under a price
 -- Settled         the counts are the settled division of F frames under a price
 -- Admissible      a client may have this number and these terms
 -- AllAdmissible   so may every client of these
 use Rattle.std.specs.Prelude.{◌≡◌, ℕ, ◌+◌, ◌^◌, ◌<◌, ◌≤◌, min, ◌≢◌, Some, None, Option}
-use Rattle.rules.specs.Offers.{Meaning}
-use Rattle.rules.specs.declared.offer.Terms.{Terms}
+use Rattle.rules.specs.declared.offer.Offer.{Offer}
 use Rattle.rules.specs.declared.offer.Bid.{Bid}
-use Rattle.rules.specs.Rank.{bid_at, Above}
+use Rattle.rules.specs.Offers.{Meaning}
+use Rattle.rules.specs.Rank.{bid, Above}
 use Rattle.laws.specs.ByNumber.{total, Numbered}
+
+pub record Terms : Type 0 where
+  pub shares : ℕ
+  pub class : ℕ
+  pub minimum : ℕ
+  pub maximum : ℕ
+  pub active : Option ℕ
 
 abbrev pub Clients : Type 0
 Clients = ℕ → Option Terms
@@ -28,8 +37,11 @@ minimum_of cs c = (terms (cs c)).minimum
 abbrev pub capped : ℕ → Clients → ℕ → ℕ
 capped F cs c = min (terms (cs c)).maximum F
 
-abbrev pub bid_of : Clients → ℕ → ℕ → Bid
-bid_of cs c k = bid_at c (terms (cs c)) k
+abbrev pub offer_of : Terms → ℕ → Offer
+offer_of t k = record { shares = t.shares; class = t.class; active = t.active; count = k }
+
+abbrev pub bid_of : Meaning → Clients → ℕ → ℕ → Bid
+bid_of m cs c k = bid m c (minimum_of cs c) (offer_of (terms (cs c)) k)
 
 -- A division by the exchange of single frames (Balinski and Young's rank-index methods): nobody would gain by one.
 pub record Settled (m : Meaning) (F : ℕ) (cs : Clients) (n : ℕ → ℕ) : Type 0 where
@@ -41,7 +53,7 @@ pub record Settled (m : Meaning) (F : ℕ) (cs : Clients) (n : ℕ → ℕ) : Ty
   pub sum : total n ≡ min F (total (capped F cs))
   -- what one client has beyond its minimum ranks above what another below its maximum would get next
   pub ranked : (c d : ℕ) → c ≢ d → minimum_of cs c < n c → n d < capped F cs d →
-      Above m (bid_of cs c (n c)) (bid_of cs d (n d + 1))
+      Above (bid_of m cs c (n c)) (bid_of m cs d (n d + 1))
 
 pub record Admissible (c : ℕ) (t : Terms) : Type 0 where
   pub numbered : Numbered c

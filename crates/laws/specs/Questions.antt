@@ -8,9 +8,8 @@ use Rattle.std.specs.Prelude.{ℕ, List, [], ◌∷◌, ◌++◌, Some, None, Op
 use Rattle.rules.specs.declared.offer.Quote.{Quote}
 use Rattle.rules.specs.declared.refusal.Refusal.TheVariants.{CountOutOfRange, NotAdmitted}
 use Rattle.rules.specs.Offers.{Meaning}
-use Rattle.rules.specs.Rank.{told}
 use Rattle.rules.specs.Refusals.{Entry, entry, Outside}
-use Rattle.laws.specs.Division.{bid_of}
+use Rattle.laws.specs.Division.{terms, offer_of}
 use Rattle.laws.specs.Broker.{Broker, present, Beyond, LowestPayer}
 use Rattle.laws.specs.Calls.{Absent, client_inputs}
 
@@ -25,7 +24,7 @@ abbrev pub client_entries : Broker → ℕ → List Entry
 client_entries b c = client_inputs c ++ (entry NotAdmitted (Absent b c) ∷ [])
 
 abbrev pub price_at : Meaning → Broker → ℕ → ℕ → Quote
-price_at m b c count = told m (bid_of (present b) c count)
+price_at m b c count = m (offer_of (terms (present b c)) count)
 
 abbrev pub LowestIs : Meaning → Broker → Option ℕ → Type 0
 LowestIs m b (Some p) = LowestPayer m b p

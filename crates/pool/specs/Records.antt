@@ -10,12 +10,14 @@
 use Rattle.std.specs.Prelude.{◌≡◌, ℕ, List, Some, None, Option}
 use Rattle.rules.specs.declared.offer.Offer.{Offer}
 use Rattle.laws.specs.ByNumber.{by_number}
+use Rattle.laws.specs.Division.{offer_of}
 use Rattle.laws.specs.Broker.{Estimate, active_of}
 use Rattle.laws.specs.Calls.{ended}
 pub use Rattle.pool.specs.declared.member.Member.{Member}
 
 abbrev pub offer_at : Member → ℕ → Offer
-offer_at x k = record { shares = x.shares; class = x.class; active = active_of x.estimate; count = k }
+offer_at x k =
+    offer_of (record { shares = x.shares; class = x.class; minimum = x.minimum; maximum = x.maximum; active = active_of x.estimate }) k
 
 abbrev pub shares_in : Option Member → ℕ
 shares_in (Some x) = x.shares

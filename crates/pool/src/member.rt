@@ -8,7 +8,7 @@ use rules::{Estimate, Offer};
 #[derive(Clone, Copy, Drop)]
 pub struct Member {
     pub shares: u32,
-    pub class: u8,
+    pub class: u32,
     pub minimum: u32,
     pub maximum: u32,
     pub estimate: Option<Estimate>,

@@ -124,7 +124,7 @@ impl Pool {
         self.admissible(asked)?;
         let member = Member {
             shares: asked.shares,
-            class: asked.class as u8,
+            class: asked.class,
             minimum: asked.minimum,
             maximum: asked.maximum,
             estimate: None,

@@ -1,12 +1,13 @@
 -- Filling a tariff sheet.
 --
--- Filled   a sheet was filled from a rate and an active count or none, or refused, and what it then holds
+-- FillsSheet   a sheet is filled from a rate and an active count or none, or refused, and what it holds then
 use Rattle.std.specs.Prelude.{◌≡◌, ℕ, List, length, Err, Option, Result}
 use Rattle.rules.specs.declared.refusal.Refusal.{Refusal}
 use Rattle.rules.specs.Prices.{Sheet}
 use Rattle.rules.specs.Refusals.{Replies, sheet_entries}
 
-pub record Filled (rate : ℕ) (active : Option ℕ) (before : List ℕ) (r : Result Unit Refusal) (after : List ℕ) : Type 0 where
+pub record FillsSheet (rate : ℕ) (active : Option ℕ) (before : List ℕ) (r : Result Unit Refusal) (after : List ℕ)
+    : Type 0 where
   -- refused by the first entry met; where none is, every place has its bottom
   pub replies : Replies (sheet_entries rate (length before)) (λ _. Sheet rate active after) r
   -- a refused sheet stays as it was

@@ -1,13 +1,13 @@
 //! The class price.
 ghost use Rattle.std.specs.Prelude.{◌≡◌};
 ghost use Rattle.rules.specs.Prices.{classed};
-ghost use Rattle.rules.proofs.Lawfully.{classed_is};
+ghost use Rattle.rules.proofs.PricesAreLawful.{classed_is};
 
 use crate::offer::ValidOffer;
-use crate::telling::Price;
+use crate::price::Price;
 use rules::Quote;
 
-/// The price by the client's class, and within a class by the price below, which never changes.
+/// The price that quotes the client's class, and with it the fraction of another price, which never changes.
 #[derive(Clone, Copy, Drop)]
 pub struct ClassPrice<P> {
     below: P,

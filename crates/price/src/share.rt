@@ -1,9 +1,9 @@
 //! The share price.
 ghost use Rattle.rules.specs.Prices.{share};
-ghost use Rattle.rules.proofs.Lawfully.{share_is};
+ghost use Rattle.rules.proofs.PricesAreLawful.{share_is};
 
 use crate::offer::ValidOffer;
-use crate::telling::Price;
+use crate::price::Price;
 use rules::Quote;
 
 /// The price by shares alone: class 0, shares over count.

@@ -1,14 +1,14 @@
 //! The price with a tax on idle frames (Waldspurger's idle memory tax).
 ghost use Rattle.std.specs.Prelude.{◌≡◌, ◌≤◌};
 ghost use Rattle.rules.specs.Prices.{taxed, taxed_bottom};
-ghost use Rattle.rules.proofs.Lawfully.{taxed_is};
+ghost use Rattle.rules.proofs.PricesAreLawful.{taxed_is};
 ghost use Rattle.rules.specs.Refusals.{Replies, rate_entries};
 
 use crate::offer::ValidOffer;
-use crate::telling::Price;
+use crate::price::Price;
 use rules::{Quote, Refusal};
 
-/// The taxed price at a rate of at most 99 per cent, which never changes. It tells class 0; in the bottom an active
+/// The taxed price at a rate of at most 99 per cent, which never changes. It quotes class 0. In the bottom an active
 /// frame counts 100 less the rate, and an idle one 100.
 #[derive(Clone, Copy, Drop)]
 pub struct TaxedPrice {
@@ -27,7 +27,7 @@ impl TaxedPrice {
         Ok(TaxedPrice { rate })
     }
 
-    /// The bottom told at a count of frames under an active count or none.
+    /// The bottom quoted at a count of frames under an active count or none.
     pub(crate) fn bottom(&self, active: Option<u32>, count: u32) -> u32
         requires { count ≤ 4_096 }
         ensures { result ≡ taxed_bottom self.now.rate active count }

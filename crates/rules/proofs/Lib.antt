@@ -1,4 +1,5 @@
 pub mod Named
-pub mod Separate
-pub mod Ranked
-pub mod Lawfully
+pub mod Bids
+pub mod Tests
+pub mod RankIsOneOrder
+pub mod PricesAreLawful

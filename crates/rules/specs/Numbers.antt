@@ -1,14 +1,15 @@
 -- The numbers that refusals and faults are known by.
 --
 -- kind_number   the number of a kind of fault, 1 to 4
--- Row           a refusal's number, whether it is met by the numbers of a line, a call or a question alone (a refusal from the
---               input) or by the broker they find (one from the state), and what it says besides
--- row           the row of each refusal: only a malformed line says more than its number, the kind and the column of its fault
+-- Row           a refusal's number, whether it is met by the numbers of a line, a call or a question alone (a refusal
+--               from the input) or by the broker they find (one from the state), and what it says besides
+-- row           the row of each refusal: only a malformed line says more than its number, the kind and the column of its
+--               fault
 -- number        the number of a refusal: 1 to 9 from the input, 11 to 23 from the state
 -- is_input      the refusal is one from the input
 -- values        what it says besides its number
--- place         where it stands among the tests: those from the input by their numbers, and past them those from the state
---               by theirs
+-- place         where it stands among the tests: those from the input by their numbers, and past them those from the
+--               state by theirs
 use Rattle.std.specs.Prelude.{ℕ, ◌+◌, Bool, true, false, cond, List, [], ◌∷◌}
 pub use Rattle.rules.specs.declared.refusal.FaultKind.{FaultKind}
 pub use Rattle.rules.specs.declared.refusal.FaultKind.TheVariants.{Letter, Space, Number, Excess}

@@ -8,11 +8,12 @@
 -- From, Rising     the places rise along a list, from one past a place on; from the first on
 -- AllInput         all refusals of a list are from the input, or none is
 -- Outside          a number is outside a range
--- offer_entries    the list of making an offer from shares, a class and a count
+-- offer_entries    the list of making an offer
 -- rate_entries     the list of making a taxed price from a rate
 -- sheet_entries    the list of filling a tariff sheet of a length at a rate
 -- buffer_entries   the list of writing something of a length into a buffer of a length
 use Rattle.std.specs.Prelude.{◌≡◌, ℕ, ◌<◌, Bool, ◌⊎◌, List, [], ◌∷◌, Ok, Err, Result}
+use Rattle.rules.specs.declared.offer.Offer.{Offer}
 use Rattle.rules.specs.Numbers.{Refusal, SharesOutOfRange, ClassOutOfRange, RateOutOfRange, CountOutOfRange, BufferTooShort, is_input, place}
 
 pub record Entry : Type 1 where
@@ -48,11 +49,11 @@ AllInput q (e ∷ es) = (is_input e.refusal ≡ q) × AllInput q es
 abbrev pub Outside : ℕ → ℕ → ℕ → Type 0
 Outside low high n = (n < low) ⊎ (high < n)
 
-abbrev pub offer_entries : ℕ → ℕ → ℕ → List Entry
-offer_entries shares class count =
-    entry SharesOutOfRange (Outside 1 1_000_000 shares)
-    ∷ entry ClassOutOfRange (9 < class)
-    ∷ entry CountOutOfRange (Outside 1 4_096 count)
+abbrev pub offer_entries : Offer → List Entry
+offer_entries o =
+    entry SharesOutOfRange (Outside 1 1_000_000 o.shares)
+    ∷ entry ClassOutOfRange (9 < o.class)
+    ∷ entry CountOutOfRange (Outside 1 4_096 o.count)
     ∷ []
 
 abbrev pub rate_entries : ℕ → List Entry

@@ -1,8 +1,8 @@
-//! The eight calls on a broker, as plain values, and what they are answered.
+//! The eight calls on a broker, as plain values, and what they return.
 ghost use Rattle.std.specs.Prelude.{◌≡◌};
 ghost use Rattle.rules.specs.Answers.{slip_of};
 
-/// How many frames a client says it uses, and the tick at which that ends.
+/// How many frames a client says it uses, and the tick at which the estimate ends.
 #[derive(Clone, Copy, PartialEq, Eq, Debug, Drop)]
 pub struct Estimate {
     pub active: u32,
@@ -11,7 +11,7 @@ pub struct Estimate {
 
 /// The five numbers of a slip: the unit, the client that gets the frame, the frame, its former owner (0 for a free
 /// frame), and the count of asks accepted so far, this one included, modulo 2^64.
-// Kept: the project gives the slip as five plain numbers, so 0 is the former owner of a free frame, and no `None`.
+// The numbers of a slip are plain, so the former owner of a free frame is 0 and not `None`.
 #[derive(Clone, Copy, PartialEq, Eq, Debug, Drop)]
 pub struct SlipNumbers {
     pub unit: u32,
@@ -35,7 +35,7 @@ pub struct Admission {
 #[derive(Clone, Copy, PartialEq, Eq, Debug, Drop)]
 pub enum Call {
     /// Gives a new broker its unit number and its frames.
-    // Kept: the two numbers part at once, the unit's and the ledger's; an estimate is kept as the one value that it is.
+    // Two numbers and no struct: one is kept with the broker, and the other with its frames.
     Start { unit: u32, frames: u32 },
     /// Admits a client under its terms.
     Admit(Admission),
@@ -48,13 +48,13 @@ pub enum Call {
     /// Lets a client go with all its frames.
     Leave { client: u32 },
     /// Sets a client's estimate.
-    // Kept: the estimate is what is kept of the client, under its number, so the number stands beside it.
+    // The number stands beside the estimate, since a client's record holds the estimate alone.
     SetEstimate { client: u32, estimate: Estimate },
     /// Sets the clock.
     SetClock { tick: u32 },
 }
 
-/// What an accepted call is answered. One that is refused changes nothing, and is answered by its refusal.
+/// What an accepted call returns. A refused call returns its refusal, and changes nothing.
 #[derive(Clone, Copy, PartialEq, Eq, Debug, Drop)]
 pub enum Answer {
     /// Nothing more: a start, an admission, a delivery, an estimate.

@@ -1,5 +1,5 @@
-//! The plain values that all layers speak of, and in specs/ the rules on offers, prices, rank and refusals. What a broker
-//! does with them is in `laws`.
+//! The plain values that all layers speak of, and in specs/ the rules on offers, prices, rank and refusals. What a
+//! broker does with them is in `laws`.
 #![tactic(auto)]
 
 mod call;
@@ -8,5 +8,5 @@ mod offer;
 mod refusal;
 
 pub use call::{Admission, Answer, Call, Estimate, SlipNumbers};
-pub use offer::{Bid, Offer, Quote, Terms};
+pub use offer::{Bid, Offer, Quote};
 pub use refusal::{Fault, FaultKind, Refusal};

@@ -85,7 +85,7 @@ impl Refusal {
     pub fn number(&self) -> u8
         ensures { result ≡ number self.now }
     {
-        // Kept: a number stands beside a variant only where no variant holds anything, and `Malformed` holds its fault (refused: unsupported-discriminant).
+        // `Malformed` holds a fault, and the variants of such an enum have no numbers (refused: unsupported-discriminant).
         match self {
             Refusal::PoolOutOfRange => 1,
             Refusal::ClientOutOfRange => 2,

@@ -15,7 +15,7 @@ use Rattle.broker.specs.declared.broker.Broker.{Broker}
 use Rattle.broker.specs.declared.slip.Undelivered.{Undelivered}
 use Rattle.broker.specs.View.{delivered, Stepped, Opens}
 use Rattle.broker.specs.View as broker
-use Rattle.price.specs.declared.telling.Price.{Ghosts}
+use Rattle.price.specs.declared.price.Price.{Ghosts}
 use Rattle.events.specs.declared.event.Event.TheVariants as event
 use Rattle.session.specs.declared.printed.Taken.{Taken}
 use Rattle.session.specs.declared.printed.Printed.TheVariants as line

@@ -12,7 +12,7 @@ use Rattle.laws.specs.Broker as rules
 use Rattle.laws.specs.Histories as history
 use Rattle.pool.specs.View.{IsNextClient}
 use Rattle.broker.specs.View.{Guaranteed, History}
-use Rattle.price.specs.declared.telling.Price.{Ghosts}
+use Rattle.price.specs.declared.price.Price.{Ghosts}
 use Rattle.session.specs.declared.printed.Printed.{Printed}
 use Rattle.session.specs.declared.printed.Printed.TheVariants as line
 use Rattle.session.specs.Session.{Session, price_of, meaning, view, Calls, LinePrints, NumberedLinePerformed}

@@ -9,7 +9,7 @@ use Rattle.laws.specs.Broker as rules
 use Rattle.laws.specs.Calls.{Answer, answered}
 use Rattle.laws.specs.Histories.{Run, then}
 use Rattle.broker.specs.View.{Stepped}
-use Rattle.price.specs.declared.telling.Price.{Ghosts}
+use Rattle.price.specs.declared.price.Price.{Ghosts}
 use Rattle.session.specs.declared.printed.Printed.{Printed}
 use Rattle.session.specs.Session.{Session, price_of, meaning, view, Calls, Outcome, call_of, Prints, Performs, LinePerforms, Performed, LinePerformed}
 use Rattle.session.specs.Session as session

@@ -32,7 +32,7 @@ use Rattle.laws.specs.Guarantees.{Guarantees}
 use Rattle.laws.specs.Questions.{price_at}
 use Rattle.pool.specs.View.{IsNextClient}
 use Rattle.broker.specs.View.{History}
-use Rattle.price.specs.declared.telling.Price.{Ghosts}
+use Rattle.price.specs.declared.price.Price.{Ghosts}
 use Rattle.session.specs.declared.printed.Held.{Held}
 use Rattle.session.specs.declared.printed.Printed.{Printed}
 use Rattle.session.specs.declared.printed.Printed.TheVariants as line

@@ -29,7 +29,7 @@ use Rattle.laws.specs.Calls.{Answer, Done, Granted, Frame, Count, Step}
 use Rattle.laws.specs.Histories as history
 use Rattle.laws.specs.Questions.{price_at}
 use Rattle.broker.specs.View as broker
-use Rattle.price.specs.declared.telling.Price.{Ghosts}
+use Rattle.price.specs.declared.price.Price.{Ghosts}
 use Rattle.session.specs.declared.printed.Grant.{Grant}
 use Rattle.session.specs.declared.printed.Taken.{Taken}
 use Rattle.session.specs.declared.printed.Printed.{Printed}

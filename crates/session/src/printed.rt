@@ -106,7 +106,7 @@ fn add_quote(text: &mut Text, word: &[u8], quote: Quote)
     ensures short { length (quote_text quote) ≤ 32 }
     ensures text { spelt text.new ≡ kept (spelt text.old ++ quote_field word.now quote) }
 {
-    add_number(text, word, quote.class as u32);
+    add_number(text, word, quote.class);
     add_number(text, b":", quote.top);
     add_number(text, b"/", quote.bottom);
 }

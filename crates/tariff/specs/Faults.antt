@@ -1,14 +1,14 @@
--- What is wrong with words that ask for no sheet.
+-- What is wrong with words that request no sheet.
 --
 -- Misread      the first of three words that is not what it should be
--- ReadsThree   three words ask for a sheet, or one of them is not what it should be
+-- ReadsThree   three words request a sheet, or one of them is not what it should be
 -- word         the word at a place
--- Reads        words ask for a sheet, or are not three, or one of them is not what it should be
+-- Reads        words request a sheet, or are not three, or one of them is not what it should be
 use Rattle.std.specs.Prelude.{◌≡◌, ℕ, List, [], length, Ok, Err, Option, Result, ◌≢◌, slice_index_or}
 use Rattle.tariff.specs.declared.request.Request.{Request}
 use Rattle.tariff.specs.declared.fault.Fault.{Fault}
 use Rattle.tariff.specs.declared.fault.Fault.TheVariants as fault
-use Rattle.tariff.specs.Requests.{Number, NoNumber, ActiveWord, NoActive, Asks}
+use Rattle.tariff.specs.Requests.{Number, NoNumber, ActiveWord, NoActive, Requests}
 
 abbrev pub Misread : List ℕ → List ℕ → List ℕ → Fault → Type 0
 Misread u v w fault.Rate = NoNumber u
@@ -17,7 +17,7 @@ Misread u v w fault.Length = ((r : ℕ) × Number u r) × ((a : Option ℕ) × A
 Misread u v w _ = ⊥
 
 abbrev pub ReadsThree : List ℕ → List ℕ → List ℕ → Result Request Fault → Type 0
-ReadsThree u v w (Ok q) = Asks u v w q
+ReadsThree u v w (Ok q) = Requests u v w q
 ReadsThree u v w (Err f) = Misread u v w f
 
 abbrev pub word : List (List ℕ) → ℕ → List ℕ

@@ -3,8 +3,9 @@
 -- row         a line: a count of frames, a space, the bottom there, and the end of the line
 -- rows        such a line for each place of a sheet, from a count on
 -- Unprinted   why a sheet of a length that is asked for is not printed
--- Prints      the text of a sheet of a length that is asked for, or why it is not printed
--- Answers     what is printed for what was read of the words
+-- IsListing   the text lists a sheet of a length that is asked for
+-- Prints      such a text is printed, or the sheet is not printed
+-- PrintsRead  what is printed for what was read of the words
 -- Lists       what is printed for words
 use Rattle.std.specs.Prelude.{◌≡◌, ℕ, ◌+◌, List, [], ◌∷◌, ◌++◌, length, Ok, Err, string_bytes, decimal, Result, String}
 use Rattle.rules.specs.declared.refusal.Refusal.TheVariants.{RateOutOfRange, CountOutOfRange}
@@ -29,13 +30,17 @@ Unprinted q n fault.Memory = Clear (sheet_entries q.rate n)
 Unprinted q n _ = ⊥
 
 module _ {Z : Type 0} where
+  abbrev pub IsListing : Request → ℕ → String Z → Type 0
+  IsListing q n text =
+      (xs : List ℕ) × (length xs ≡ n) × Sheet q.rate q.active xs × (string_bytes text ≡ rows 1 xs)
+
   abbrev pub Prints : Request → ℕ → Result (String Z) Fault → Type 0
-  Prints q n (Ok text) = Clear (sheet_entries q.rate n) × ((xs : List ℕ) × (length xs ≡ n) × Sheet q.rate q.active xs × (string_bytes text ≡ rows 1 xs))
+  Prints q n (Ok text) = Clear (sheet_entries q.rate n) × IsListing q n text
   Prints q n (Err f) = Unprinted q n f
 
-  abbrev pub Answers : Result Request Fault → Result (String Z) Fault → Type 0
-  Answers (Ok q) r = Prints q q.length r
-  Answers (Err f) r = r ≡ Err f
+  abbrev pub PrintsRead : Result Request Fault → Result (String Z) Fault → Type 0
+  PrintsRead (Ok q) r = Prints q q.length r
+  PrintsRead (Err f) r = r ≡ Err f
 
   abbrev pub Lists : List (List ℕ) → Result (String Z) Fault → Type 0
-  Lists ws r = (read : Result Request Fault) × Reads ws read × Answers read r
+  Lists ws r = (read : Result Request Fault) × Reads ws read × PrintsRead read r

@@ -1,4 +1,4 @@
--- What words ask for.
+-- What words request.
 --
 -- Number          a word is a number of at most 32 bits in plain decimal
 -- NoNumber        a word is no such number
@@ -6,7 +6,7 @@
 -- ActiveWord      a word is an active count, or - where there is none
 -- NoActive        a word is neither
 -- ReadsActive     what is read of a word: its active count or the absence of one, or the fault that it is neither
--- Asks            three words ask for a sheet
+-- Requests        three words request a sheet
 use Rattle.std.specs.Prelude.{◌≡◌, ℕ, ◌^◌, ◌<◌, List, Some, None, Ok, Err, codes, decimal, Option, Result, ◌≢◌}
 use Rattle.tariff.specs.declared.request.Request.{Request}
 use Rattle.tariff.specs.declared.fault.Fault.{Fault}
@@ -33,5 +33,5 @@ abbrev pub ReadsActive : List ℕ → Result (Option ℕ) Fault → Type 0
 ReadsActive w (Ok a) = ActiveWord w a
 ReadsActive w (Err f) = NoActive w × (f ≡ fault.Active)
 
-abbrev pub Asks : List ℕ → List ℕ → List ℕ → Request → Type 0
-Asks rate active length q = Number rate q.rate × ActiveWord active q.active × Number length q.length
+abbrev pub Requests : List ℕ → List ℕ → List ℕ → Request → Type 0
+Requests rate active length q = Number rate q.rate × ActiveWord active q.active × Number length q.length

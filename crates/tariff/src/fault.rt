@@ -37,7 +37,7 @@ pub enum Fault {
     Memory,
 }
 
-/// A refused sheet is told by what is too large.
+/// The fault of a refused sheet says which number is too large.
 impl From<Refusal> for Fault {
     ghost from_gives = { λ refusal fault. fault ≡ refused refusal };
 

@@ -20,7 +20,7 @@ fn lines(alloc: Global, sheet: &[u32]) -> Result<String, Fault>
     Ok(text)
 }
 
-/// The text of the sheet that is asked for, made in a lent sheet, or why there is none.
+/// The text of the sheet that is asked for, filled in a borrowed one, or why there is none.
 fn sheet_text(alloc: Global, request: Request, sheet: &mut [u32]) -> Result<String, Fault>
     ensures { Prints request (length sheet.old) result }
 {
@@ -35,7 +35,7 @@ pub fn listing(alloc: Global, words: &[String]) -> Result<String, Fault>
     let request = Request::read(words)?;
     // a longer sheet is cut to 4,097 places, which are refused alike
     let places = request.length.min(4_097) as usize;
-    // Kept: a `Vec` is made before the sheet is refused, so a refusal could be told as want of memory.
+    // An array, since a `Vec` is made before the sheet is refused: a refusal could then be reported as want of memory.
     let mut sheet = [0; 4_097];
     sheet_text(alloc, request, &mut sheet[..places])
 }

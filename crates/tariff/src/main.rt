@@ -27,7 +27,7 @@ fn run(rt: &HostRuntime) -> anyhow::Result<()> {
 }
 
 fn main(rt: HostRuntime) -> ExitCode {
-    // Kept: a fault that `main` itself answers is printed with other words in front.
+    // A fault that `main` returned would be printed with other words in front.
     match run(&rt) {
         Ok(()) => ExitCode::SUCCESS,
         Err(fault) => {

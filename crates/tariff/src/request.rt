@@ -21,7 +21,7 @@ fn number(word: &str) -> Option<u32>
     plain_number(word.as_bytes())
 }
 
-/// The active count that a word says, or none where it is `-`.
+/// The active count that a word gives, or none where it is `-`.
 fn active_count(word: &str) -> Result<Option<u32>, Fault>
     ensures { ReadsActive word.now result }
 {
@@ -32,7 +32,7 @@ fn active_count(word: &str) -> Result<Option<u32>, Fault>
 }
 
 impl Request {
-    /// What a rate, an active count or `-`, and a length ask for.
+    /// The request that a rate, an active count or `-`, and a length make.
     fn of(rate: &str, active: &str, length: &str) -> Result<Request, Fault>
         ensures { ReadsThree rate.now active.now length.now result }
     {
@@ -43,7 +43,7 @@ impl Request {
         })
     }
 
-    /// What the words of a command line ask for.
+    /// The request that the words of a command line make.
     pub fn read(words: &[String]) -> Result<Request, Fault>
         ensures { Reads (map string_bytes words.now) result }
     {

@@ -1,5 +1,5 @@
 use Rattle.rules.proofs.laws.prices_are_lawful.Goals as goal
-use Rattle.rules.proofs.Lawfully.{prices_lawful}
+use Rattle.rules.proofs.PricesAreLawful.{prices_are_lawful}
 
 pub returns : goal.returns
-returns c = prices_lawful
+returns c = prices_are_lawful

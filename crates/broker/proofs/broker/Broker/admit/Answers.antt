@@ -7,4 +7,4 @@ pub invariant_of-self : goal.invariant_of-self
 invariant_of-self g c = record { kept = admitted_bids c.args.self.now (c.admit.ensures _) }
 
 pub returns : goal.returns
-returns g c = stepped (c.admit.ensures _) refl
+returns g c = stepped (g.met.P.Price.lawful _) (c.admit.ensures _) refl

@@ -11,10 +11,10 @@ invariant_of-self g c = record { kept = λ d. spared c.args.self.now (c.in_err-e
 pub returns-in_err-estimate : goal.returns-in_err-estimate
 returns-in_err-estimate g c =
     let p = err_from_is_err_and c.from_residual.result c.from_residual.ensures.1 in
-    rw (p.1, p.2) (stepped (c.in_err-estimate.ensures _) refl)
+    rw (p.1, p.2) (stepped (g.met.P.Price.lawful _) (c.in_err-estimate.ensures _) refl)
 
 pub invariant_of-self-2 : goal.invariant_of-self-2
 invariant_of-self-2 g c = record { kept = renewed c.renew.ensures (spared c.args.self.now (c.in_ok-estimate.ensures _)) }
 
 pub returns : goal.returns
-returns g c = stepped (c.in_ok-estimate.ensures _) refl
+returns g c = stepped (g.met.P.Price.lawful _) (c.in_ok-estimate.ensures _) refl

@@ -7,4 +7,4 @@ pub invariant_of-result : goal.invariant_of-result
 invariant_of-result g c = record { kept = rw c.new.ensures (no_bids (g.P.Price.meaning c.args.price) (bid_in c.new-2.result) c.new-2.ensures) }
 
 pub returns-clause-guarantees : goal.returns-clause-guarantees
-returns-clause-guarantees g c = histories_keep_guarantees (g.P.Price.meaning c.args.price) (g.P.Price.lawful c.args.price)
+returns-clause-guarantees g c = histories_keep_guarantees (g.P.Price.meaning c.args.price) (g.met.P.Price.lawful c.args.price)

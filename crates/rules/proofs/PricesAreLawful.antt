@@ -2,11 +2,15 @@
 use Rattle.std.proofs.Common.{ℕ, ◌-◌, ◌*◌, ◌≤◌, Bool, true, false, Option, refl, mul-le-mul, mul-le-mul_left, mul-pos, arith}
 use Rattle.rules.specs.Offers.{Meaning, Lawful}
 use Rattle.rules.specs.Prices.{share, taxed, taxed_bottom, used, classed, one_of}
-use Rattle.rules.specs.Laws.{PricesLawful}
+use Rattle.rules.specs.Laws.{PricesAreLawful}
 
 pub share_is : Lawful share
 share_is =
-    record { in_range = λ o v. omega arith; one_class = λ o j k v w. refl; falling = λ o j k v w h. mul-le-mul_left o.shares h }
+    record {
+      in_range = λ o v. omega arith;
+      one_class = λ o j k v w. refl;
+      falling = λ o j k v w h. mul-le-mul_left o.shares h;
+    }
 
 used_le : (a : Option ℕ) (k : ℕ) → used a k ≤ k
 used_le a k = grind arith
@@ -31,11 +35,16 @@ taxed_is r h =
     }
 
 pub classed_is : (m : Meaning) → Lawful m → Lawful (classed m)
-classed_is m l = record { in_range = λ o v. omega (arith, l.in_range o v); one_class = λ o j k v w. refl; falling = l.falling }
+classed_is m l =
+    record {
+      in_range = λ o v. omega (arith, l.in_range o v);
+      one_class = λ o j k v w. refl;
+      falling = l.falling;
+    }
 
 pub one_of_is : (first : Bool) (m n : Meaning) → Lawful m → Lawful n → Lawful (one_of first m n)
 one_of_is true m n l k = l
 one_of_is false m n l k = k
 
-pub prices_lawful : PricesLawful
-prices_lawful = record { share_is = share_is; taxed_is = taxed_is; classed_is = classed_is; one_of_is = one_of_is }
+pub prices_are_lawful : PricesAreLawful
+prices_are_lawful = record { share_is = share_is; taxed_is = taxed_is; classed_is = classed_is; one_of_is = one_of_is }

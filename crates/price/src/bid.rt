@@ -1,0 +1,75 @@
+//! Bids that the rank orders.
+ghost use Rattle.std.specs.Prelude.{◌≡◌};
+ghost use Rattle.std.specs.Ordering.{is_gt};
+ghost use Rattle.rules.specs.Laws.{IsFraction};
+ghost use Rattle.rules.specs.Rank.{bid, above};
+
+use crate::offer::ValidOffer;
+use crate::price::Price;
+use heap::Order;
+use rules::Bid;
+use std::cmp::Ordering;
+
+/// A bid under a lawful price: the bottom of its quote is at least 1. Among such bids the rank is an order.
+#[derive(Clone, Copy, Drop)]
+pub struct ValidBid {
+    pub bid: Bid,
+    ghost fraction: { IsFraction bid.quote },
+}
+
+/// How a bid ranks beside another: five tests, of which the first that separates the two decides. Fractions are compared
+/// by their cross products, which fit 64 bits.
+#[tactic(auto, unfolding(rules::specs::Rank::above, rules::specs::Rank::ranks))]
+fn rank(a: &Bid, b: &Bid) -> Ordering
+    ensures { is_gt result ≡ above a.now b.now }
+{
+    (a.count <= a.minimum)
+        .cmp(&(b.count <= b.minimum))
+        .then_with(|| a.quote.class.cmp(&b.quote.class))
+        .then_with(|| {
+            let first = a.quote.top as u64 * b.quote.bottom as u64;
+            let second = b.quote.top as u64 * a.quote.bottom as u64;
+            first.cmp(&second)
+        })
+        .then_with(|| b.client.cmp(&a.client))
+        .then_with(|| b.count.cmp(&a.count))
+}
+
+impl ValidBid {
+    /// The bid that a client with this minimum makes by this offer, under a price.
+    pub fn new<P: Price>(price: &P, client: u32, minimum: u32, offer: ValidOffer) -> ValidBid
+        ensures { result.bid ≡ bid (P.Price.meaning price.now) client minimum offer.offer }
+    {
+        ValidBid {
+            bid: Bid {
+                client,
+                minimum,
+                count: offer.offer().count,
+                quote: price.quote(offer),
+            },
+        }
+    }
+
+    /// Whether this bid ranks above another.
+    pub fn ranks_above(&self, other: &ValidBid) -> bool
+        ensures { result ≡ above self.now.bid other.now.bid }
+    {
+        rank(&self.bid, &other.bid).is_gt()
+    }
+}
+
+/// Bids are the keys of a heap with the lowest bid at its root.
+impl Order for ValidBid {
+    ghost use Rattle.rules.proofs.RankIsOneOrder.{one_no_higher, no_higher_on};
+    ghost use Rattle.price.specs.Bids.{leads};
+
+    ghost leads = { leads };
+
+    ghost total = { λ x y. one_no_higher x.bid y.bid };
+
+    ghost chain = { λ x y z. no_higher_on x.bid y.bid z.bid x.fraction y.fraction z.fraction };
+
+    fn no_later(&self, other: &ValidBid) -> bool {
+        !self.ranks_above(other)
+    }
+}
