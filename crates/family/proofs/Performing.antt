@@ -4,7 +4,7 @@ use Rattle.std.proofs.lemmas.List.{take_more, take_more_set, take_all, drop-set-
 use Rattle.std.proofs.lemmas.Grind.{drop_more_same}
 use Rattle.std.proofs.lemmas.Option.{same_Some, slice_get_within}
 use Rattle.rules.specs.declared.refusal.Refusal.{Refusal}
-use Rattle.rules.specs.Offers.{Meaning}
+use Rattle.rules.specs.Offers.{Meaning, Lawful}
 use Rattle.laws.specs.ByNumber.{put}
 use Rattle.laws.specs.Broker.{new_broker}
 use Rattle.laws.specs.Calls.{Answer, Step}
@@ -106,8 +106,8 @@ module _ {P : Type 0} {g : Ghosts P} where
       sofar_one (Some a) {ds} made = called a ds made
       sofar_one None (far, same) = rw same (more None s.events cs (nowhere o s.run (omega (arith, s.brokers, length-map {A = PlainBroker P g} {B = Meaning}))) s.each s.brokers)
 
-    pub all_done : i ≡ length os → Performed bs os before cs after
-    all_done e =
+    pub all_done : ((p : P) → Lawful (g.meaning p)) → i ≡ length os → Performed bs os before cs after
+    all_done lawful e =
         let r : FamilyRun (meanings bs) os (take (length os) after) s.events = rw (← e) (rw (take_all i os (omega (arith, e))) at s.run) in
         record {
           events = s.events;
@@ -115,8 +115,8 @@ module _ {P : Type 0} {g : Ghosts P} where
           each = λ j b at.
               let (c, there, stood) = s.each j b at in
               let led : Run (meaning (broker_of b)) new_broker (s.events j) (view (broker_of c)) = rw stood.0 (own_run r j _ (get_mapped _ bs j b at)) in
-              let lawful = g.lawful (price_of b) in
-              (c, there, record { lawful = lawful; price = stood.1; led = led; guarantees = histories_keep_guarantees _ lawful _ _ led });
+              let kept = lawful (price_of b) in
+              (c, there, record { lawful = kept; price = stood.1; led = led; guarantees = histories_keep_guarantees _ kept _ _ led });
           brokers = s.brokers;
           beyond = rw (← e) s.beyond;
         }

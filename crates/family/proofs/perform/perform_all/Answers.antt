@@ -11,4 +11,4 @@ loop-i-preserved g c =
     sofar_one c.loop-i.invariant (omega arith) c.loop-i-test.true (get_or_default c.args.orders.now c.loop-i.i _ _ c.loop-i-test.true) c.obey.result c.obey.ensures
 
 pub returns-clause-performed : goal.returns-clause-performed
-returns-clause-performed g c = all_done c.loop-i.invariant (omega arith)
+returns-clause-performed g c = all_done c.loop-i.invariant g.met.P.Price.lawful (omega arith)
