@@ -1,7 +1,8 @@
 -- Asks: the prices that are printed of a grant, and its delivery.
 use Rattle.std.specs.Result.{IsOk}
-use Rattle.std.proofs.Common.{◌≡◌, ℕ, zero, suc, ◌+◌, ◌≤◌, ◌≢◌, List, [], ◌∷◌, length, Some, Ok, Err, Result, refl, ap, ◌∙◌, add-zero, arith}
+use Rattle.std.proofs.Common.{◌≡◌, ℕ, zero, suc, ◌+◌, ◌≤◌, ◌≢◌, List, [], ◌∷◌, length, Some, Ok, Err, Option, Result, refl, ap, ◌∙◌, add-zero, arith}
 use Rattle.rules.specs.Offers.{Meaning}
+use Rattle.rules.specs.declared.offer.Quote.{Quote}
 use Rattle.laws.specs.Broker as rules
 use Rattle.laws.specs.Broker.{SlipNumbers, holding}
 use Rattle.laws.specs.Calls
@@ -12,13 +13,14 @@ use Rattle.laws.proofs.One.{one_answer}
 use Rattle.laws.proofs.Puts.{put_at, put_off}
 use Rattle.broker.specs.declared.broker.Broker.{Broker}
 use Rattle.broker.specs.declared.slip.Undelivered.{Undelivered}
-use Rattle.broker.specs.View.{meaning, view, delivered, Stepped, Opens}
+use Rattle.broker.specs.View.{delivered, Stepped, Opens}
+use Rattle.broker.specs.View as broker
 use Rattle.price.specs.declared.telling.Price.{Ghosts}
 use Rattle.events.specs.declared.event.Event.TheVariants as event
-use Rattle.session.specs.declared.printed.Grant.{Grant}
+use Rattle.session.specs.declared.printed.Taken.{Taken}
 use Rattle.session.specs.declared.printed.Printed.TheVariants as line
-use Rattle.session.specs.Session.{Performed, taken_of, grant_of, granted}
-use Rattle.session.specs.Asks.{HasPrice, Lost, taken_from, grant_after}
+use Rattle.session.specs.Session.{Session, meaning, view, Performed, taken_of, granted}
+use Rattle.session.specs.Asks.{HasPrice, price_with, Lost, taken_from}
 use Rattle.session.proofs.Holding.{few_held}
 
 -- what an ask that is granted leaves
@@ -46,29 +48,27 @@ module _ (m : Meaning) (b : rules.Broker) (few : (d : ℕ) → holding b d ≤ 4
       record { asker = refl; some = given g most (put_at _ _ _); less = t.0; over = t.1 }
 
 -- the slip that opened the passage is delivered
-pub delivers : {P : Type 0} {o : Ghosts P} {g d : Broker P o} {s : SlipNumbers} (r : Result (Unit {0}) Undelivered) → (view g).passage ≡ Some s → Stepped g (Deliver s) (delivered r) d → IsOk r
+pub delivers : {P : Type 0} {o : Ghosts P} {g d : Broker P o} {s : SlipNumbers} (r : Result (Unit {0}) Undelivered) → (broker.view g).passage ≡ Some s → Stepped g (Deliver s) (delivered r) d → IsOk r
 delivers (Ok x) e t = refl
-delivers {g = g} (Err u) e t = let o = (one_answer (meaning g) (view g) _ _ _ _ _ (Calls.accepted ((λ other. other e), tt) Calls.delivered) t.step).0 in cc
+delivers {g = g} (Err u) e t =
+    let o = (one_answer (broker.meaning g) (broker.view g) _ _ _ _ _ (Calls.accepted ((λ other. other e), tt) Calls.delivered) t.step).0 in cc
 
-module _ {P : Type 0} {ghosts : Ghosts P} {b g : Broker P ghosts} {c : ℕ} {s : SlipNumbers} (a : Stepped b (Ask c) (Ok (Granted s)) g) (o : Opens c s g) where
+module _ {P : Type 0} {ghosts : Ghosts P} {b g : Session P ghosts} {c : ℕ} {s : SlipNumbers} (a : Stepped b.broker (Ask c) (Ok (Granted s)) g.broker) (o : Opens c s g.broker) where
   abbrev m : Meaning
   m = meaning b
 
   left_by : Leaves m (view b) c s (view g)
-  left_by = leaves m (view b) (few_held b.pool) c (few_held g.pool c) o.1 a.step
+  left_by = leaves m (view b) (few_held b.broker.pool) c (few_held g.broker.pool c) o.1 a.step
 
   -- the prices that are printed of the slip are there
   pub has_prices : HasPrice (view g) s.client 0 × Lost (view g) s.former
   has_prices = (rw left_by.asker left_by.some, left_by.less)
 
   -- what is printed of the ask is its grant
-  pub ask_printed : {d : Broker P ghosts} → Stepped g (Deliver s) (Ok Done) d → {p : Grant} → p ≡ grant_after (meaning g) (view g) s → Performed b (event.Ask c) (Ok (line.Grant p)) d
-  ask_printed {d} t {p} e =
-      let same : p ≡ grant_of m (view b) s (view g) = rw (meaning, a.price, add-zero, left_by.over) at e in
-      record {
-        performs = (
-          history.event (Deliver s) (Ok Done) (view d) ∷ history.event (Ask c) (Ok (Granted s)) (view g) ∷ [],
-          rw same (granted a.step (rw (meaning, a.price) at t.step)),
-        );
-        price = t.price ∙ a.price;
-      }
+  pub ask_printed : {d : Session P ghosts} {q : Quote} {t : Option Taken} → Stepped g.broker (Deliver s) (Ok Done) d.broker →
+      q ≡ price_with (meaning g) (view g) s.client 0 → t ≡ taken_from (meaning g) (view g) s.former →
+      Performed b (event.Ask c) (Ok (line.Grant (record { client = s.client; frame = s.frame; paying = q; taken = t }))) d
+  ask_printed {d} u pays takes =
+      let paying = rw (meaning, a.price, add-zero) at pays in
+      let former = rw (meaning, a.price, left_by.over) at takes in
+      record { performs = (history.event (Deliver s) (Ok Done) (view d) ∷ history.event (Ask c) (Ok (Granted s)) (view g) ∷ [], rw (paying, former) (granted a.step (rw (broker.meaning, a.price) at u.step))); price = u.price ∙ a.price }

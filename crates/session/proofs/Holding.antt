@@ -1,18 +1,23 @@
--- What clients hold, and which questions are answered.
-use Rattle.std.proofs.Common.{ℕ, ◌<◌, ◌≤◌, length, Some, None, Option, ap, arith}
-use Rattle.rules.specs.Refusals.{Clear}
+-- What clients hold, and who has a price.
+use Rattle.std.proofs.Common.{◌≡◌, ℕ, ◌<◌, ◌≤◌, length, Some, None, Ok, Err, Option, Result, refl, ap, arith}
+use Rattle.rules.specs.Offers.{Meaning}
+use Rattle.rules.specs.declared.offer.Quote.{Quote}
+use Rattle.rules.specs.declared.refusal.Refusal.{Refusal}
+use Rattle.rules.specs.Refusals.{Clear, Replies}
 use Rattle.laws.specs.ByNumber.{Numbered, by_number}
 use Rattle.laws.specs.Broker as rules
 use Rattle.laws.specs.Broker.{holding}
 use Rattle.laws.specs.Calls.{Absent}
-use Rattle.laws.specs.Questions.{price_entries}
-use Rattle.laws.proofs.Kept.{held_of}
+use Rattle.laws.specs.Questions.{price_entries, price_at}
+use Rattle.laws.proofs.Kept.{held_of as length_of}
+use Rattle.laws.proofs.One.{first_or_clear}
 use Rattle.ledger.specs.Ledgers.{stack_of}
 use Rattle.pool.specs.declared.member.Member.{Member}
 use Rattle.pool.specs.declared.pool.Pool.{Pool}
 use Rattle.pool.specs.View.{client_of, view}
 use Rattle.pool.proofs.Grants.{noted, noted_numbered}
 use Rattle.broker.proofs.Noted.{few_stacked}
+use Rattle.session.specs.Input.{reported}
 
 module _ (b : Pool) (c : ℕ) where
   -- no client holds more frames than a pool can have
@@ -25,7 +30,7 @@ module _ (b : Pool) (c : ℕ) where
 
   -- who holds a frame is there
   pub holder_there : 0 < holding (view b) c → Absent (view b) c → ⊥
-  holder_there h none = omega (arith, ap held_of none)
+  holder_there h none = omega (arith, ap length_of none)
 
   module _ (there : Absent (view b) c → ⊥) where
     -- who is there has a client number
@@ -34,3 +39,12 @@ module _ (b : Pool) (c : ℕ) where
 
     pub price_told : (k : ℕ) → 1 ≤ k → k ≤ 4_096 → Clear (price_entries (view b) c k)
     price_told k low high = (omega (arith, there_numbered), (omega arith, (there, tt)))
+
+-- who has no price holds nothing
+pub unpriced : (m : Meaning) (b : Pool) (c n : ℕ) → n ≡ holding (view b) c → (r : Result Quote Refusal) →
+    Replies (price_entries (view b) c n) (λ q. q ≡ price_at m (view b) c n) r → ((q : Quote) → r ≡ Ok q → ⊥) → None ≡ reported m (view b) c
+unpriced m b c n e (Ok q) t never = absurd (never q refl)
+unpriced m b c n e (Err r) t never =
+    let priced : 0 < holding (view b) c → ⊥ = λ h. first_or_clear (price_entries (view b) c n) r t (price_told b c (holder_there b c h) n (omega arith) (omega (arith, few_held b c))) in
+    let nothing : holding (view b) c ≡ 0 = omega (arith, priced) in
+    rw nothing

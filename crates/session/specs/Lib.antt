@@ -1,4 +1,4 @@
 pub mod Printed
 pub mod Session
 pub mod Asks
-pub mod Run
+pub mod Input

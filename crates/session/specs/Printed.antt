@@ -1,16 +1,16 @@
 -- The lines that a broker's program prints, without their newlines.
 --
 -- field          a word, and a number in decimal
--- quoted         a quote: its class, its top and its bottom
--- priced         a word, and a quote
--- granted        a grant from a client, or from 0, and what is paid for it
+-- quote_text     a quote: its class, its top and its bottom
+-- quote_field    a word, and a quote
+-- grant_head     a grant from a client, or from 0, and what is paid for it
 -- grant_line     the line of a grant, of a free frame or of a frame that was taken from a client
--- holding        a client, and how many frames it holds
+-- client_head    a client, and how many frames it holds
 -- client_line    the line of a client in the end report, of one that holds nothing or of one that holds frames
 -- printed_line   the line of each value
 use Rattle.std.specs.Prelude.{ℕ, List, ◌++◌, Some, None, codes, decimal, Option}
 use Rattle.rules.specs.declared.offer.Quote.{Quote}
-use Rattle.events.specs.Told.{told}
+use Rattle.events.specs.LineFaults.{fault_line}
 use Rattle.session.specs.declared.printed.Grant.{Grant}
 use Rattle.session.specs.declared.printed.Taken.{Taken}
 use Rattle.session.specs.declared.printed.Held.{Held}
@@ -20,25 +20,29 @@ use Rattle.session.specs.declared.printed.Printed.TheVariants as line
 abbrev pub field : List ℕ → ℕ → List ℕ
 field word n = word ++ decimal n
 
-abbrev pub quoted : Quote → List ℕ
-quoted q = decimal q.class ++ field (codes ":") q.top ++ field (codes "/") q.bottom
+abbrev pub quote_text : Quote → List ℕ
+quote_text q = decimal q.class ++ field (codes ":") q.top ++ field (codes "/") q.bottom
 
-abbrev pub priced : List ℕ → Quote → List ℕ
-priced word q = word ++ quoted q
+abbrev pub quote_field : List ℕ → Quote → List ℕ
+quote_field word q = word ++ quote_text q
 
-abbrev pub granted : Grant → ℕ → List ℕ
-granted g from = field (codes "grant ") g.client ++ field (codes " frame ") g.frame ++ field (codes " from ") from ++ priced (codes " paying ") g.paying
+abbrev pub grant_head : Grant → ℕ → List ℕ
+grant_head g from =
+    field (codes "grant ") g.client
+    ++ field (codes " frame ") g.frame
+    ++ field (codes " from ") from
+    ++ quote_field (codes " paying ") g.paying
 
 abbrev pub grant_line : Grant → Option Taken → List ℕ
-grant_line g None = granted g 0
-grant_line g (Some t) = granted g t.from ++ priced (codes " over ") t.over
+grant_line g None = grant_head g 0
+grant_line g (Some t) = grant_head g t.from ++ quote_field (codes " over ") t.over
 
-abbrev pub holding : ℕ → ℕ → List ℕ
-holding client frames = field (codes "client ") client ++ field (codes " holds ") frames
+abbrev pub client_head : ℕ → ℕ → List ℕ
+client_head client frames = field (codes "client ") client ++ field (codes " holds ") frames
 
 abbrev pub client_line : ℕ → Option Held → List ℕ
-client_line client None = holding client 0 ++ codes " price -"
-client_line client (Some h) = holding client h.frames ++ priced (codes " price ") h.price
+client_line client None = client_head client 0 ++ codes " price -"
+client_line client (Some h) = client_head client h.frames ++ quote_field (codes " price ") h.price
 
 abbrev pub printed_line : Printed → List ℕ
 printed_line (line.Pool unit frames) = field (codes "pool ") unit ++ field (codes " frames ") frames
@@ -48,6 +52,6 @@ printed_line (line.Back client frame) = field (codes "back ") client ++ field (c
 printed_line (line.Leave client frames) = field (codes "leave ") client ++ field (codes " frames ") frames
 printed_line (line.Estimate client) = field (codes "estimate ") client
 printed_line (line.Clock tick ended) = field (codes "clock ") tick ++ field (codes " ended ") ended
-printed_line (line.Refused f) = told f
+printed_line (line.Refused f) = fault_line f
 printed_line (line.Free frames) = field (codes "end free ") frames
 printed_line (line.Client client held) = client_line client held

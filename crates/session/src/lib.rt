@@ -1,13 +1,11 @@
-//! A broker's program: one event line after another is performed on a broker, and what is printed of each is a value that
-//! is written into a lent buffer.
+//! A broker's program: event lines are performed on a broker, one after another, and what is printed of each is a value
+//! that is written into a borrowed buffer or printed.
 #![tactic(auto)]
 
-mod print;
+mod input;
 mod printed;
-mod run;
 mod session;
 
-pub use print::{print_all, serve};
+pub use input::{print_input, serve, serve_by_class, serve_by_shares};
 pub use printed::{Grant, Held, Printed, Taken};
-pub use run::Run;
 pub use session::Session;

@@ -1,17 +1,14 @@
 //! The lines that a broker's program prints, each as a value.
-#![tactic(auto, using(text::proofs::Cuts::joined))]
+#![tactic(auto, using(text::proofs::Kept::joined, crate::proofs::Decimals::decimal_short))]
 
+ghost use Rattle.std.specs.Prelude.{◌≡◌, ◌≤◌, ◌++◌, length, decimal};
+ghost use Rattle.session.specs.Printed.{field, quote_field, quote_text, grant_head, grant_line, client_head, client_line};
 ghost use Rattle.session.specs.Printed.{printed_line};
+ghost use Rattle.text.specs.Texts.{kept, spelt};
 
 use events::LineFault;
 use rules::Quote;
 use text::{Line, Text};
-
-mod fields;
-mod priced;
-
-use fields::add_number;
-use priced::{add_client, add_grant};
 
 /// The client that a granted frame was taken from, and what that client paid for it.
 #[derive(Clone, Copy, Drop)]
@@ -89,5 +86,70 @@ impl Line for Printed {
             Printed::Free { frames } => add_number(text, b"end free ", frames),
             Printed::Client { client, held } => add_client(text, client, held),
         }
+    }
+}
+
+// Each `short` below says how long a part is at most: a contract knows that its numbers have 32 bits, and a lemma would
+// have to be told it of each.
+
+/// Appends a word and a number to a text. The number takes 10 bytes at most.
+fn add_number(text: &mut Text, word: &[u8], n: u32)
+    ensures short { length (decimal n) ≤ 10 }
+    ensures text { spelt text.new ≡ kept (spelt text.old ++ field word.now n) }
+{
+    text.bytes(word);
+    text.number(n as u64);
+}
+
+/// Appends a word and a quote to a text. The quote takes 32 bytes at most.
+fn add_quote(text: &mut Text, word: &[u8], quote: Quote)
+    ensures short { length (quote_text quote) ≤ 32 }
+    ensures text { spelt text.new ≡ kept (spelt text.old ++ quote_field word.now quote) }
+{
+    add_number(text, word, quote.class as u32);
+    add_number(text, b":", quote.top);
+    add_number(text, b"/", quote.bottom);
+}
+
+/// Appends a grant from a client, or from 0 where the frame was free, and what is paid for it to a text.
+fn add_grant_head(text: &mut Text, grant: Grant, from: u32)
+    ensures text { spelt text.new ≡ kept (spelt text.old ++ grant_head grant from) }
+    ensures short { length (grant_head grant from) ≤ 89 }
+{
+    add_number(text, b"grant ", grant.client);
+    add_number(text, b" frame ", grant.frame);
+    add_number(text, b" from ", from);
+    add_quote(text, b" paying ", grant.paying);
+}
+
+/// Appends the line of a grant to a text.
+fn add_grant(text: &mut Text, grant: Grant)
+    ensures text { spelt text.new ≡ kept (spelt text.old ++ grant_line grant grant.taken) }
+    ensures short { length (grant_line grant grant.taken) ≤ 128 }
+{
+    add_grant_head(text, grant, grant.taken.map_or(0, |taken| taken.from));
+    if let Some(taken) = grant.taken {
+        add_quote(text, b" over ", taken.over);
+    }
+}
+
+/// Appends a client and how many frames it holds to a text.
+fn add_client_head(text: &mut Text, client: u32, frames: u32)
+    ensures text { spelt text.new ≡ kept (spelt text.old ++ client_head client frames) }
+    ensures short { length (client_head client frames) ≤ 34 }
+{
+    add_number(text, b"client ", client);
+    add_number(text, b" holds ", frames);
+}
+
+/// Appends the line of a client in the end report to a text.
+fn add_client(text: &mut Text, client: u32, held: Option<Held>)
+    ensures text { spelt text.new ≡ kept (spelt text.old ++ client_line client held) }
+    ensures short { length (client_line client held) ≤ 128 }
+{
+    add_client_head(text, client, held.map_or(0, |held| held.frames));
+    match held {
+        None => text.bytes(b" price -"),
+        Some(held) => add_quote(text, b" price ", held.price),
     }
 }

@@ -1,12 +1,11 @@
 //! Runs a broker under the share price: reads an input of event lines, and prints a line for each, and the end report.
 #![tactic(auto)]
 
-use price::SharePrice;
-use session::serve;
+use session::serve_by_shares;
 use std::io::BufWriter;
 
 fn main(rt: HostRuntime) -> anyhow::Result<()> {
     let mut out = BufWriter::new(rt.alloc(), rt.stdout())?;
-    serve(SharePrice, rt.alloc(), rt.stdin(), &mut out)?;
+    serve_by_shares(rt.alloc(), rt.stdin(), &mut out)?;
     Ok(())
 }

@@ -8,12 +8,16 @@ returns-in_err-slip g c =
     let p = err_from_is_err_and c.from_residual.result c.from_residual.ensures.1 in
     rw (p.1, p.2) (refused_call c.in_err-slip.ensures.step)
 
+pub quote-requires : goal.quote-requires
+quote-requires g c = rw c.numbers-granted.ensures (has_prices c.in_ok-slip.ensures.step c.in_ok-slip.ensures.opens).0
+
+pub taken-requires : goal.taken-requires
+taken-requires g c = rw c.numbers-granted.ensures (has_prices c.in_ok-slip.ensures.step c.in_ok-slip.ensures.opens).1
+
 pub unwrap-requires : goal.unwrap-requires
 unwrap-requires g c = delivers c.deliver.result c.in_ok-slip.ensures.opens.0 c.deliver.ensures.step
 
-pub printed_grant-grant-requires : goal.printed_grant-grant-requires
-printed_grant-grant-requires g c = rw c.numbers.ensures (has_prices c.in_ok-slip.ensures.step c.in_ok-slip.ensures.opens)
-
 pub returns : goal.returns
 returns g c =
-    ask_printed c.in_ok-slip.ensures.step c.in_ok-slip.ensures.opens (rw c.unwrap.ensures at c.deliver.ensures.step) (rw c.numbers.ensures at c.printed_grant-grant.ensures)
+    let is = c.numbers-granted.ensures in
+    rw is (ask_printed c.in_ok-slip.ensures.step c.in_ok-slip.ensures.opens (rw c.unwrap.ensures at c.deliver.ensures.step) (rw is at c.quote.ensures) (rw is at c.taken.ensures))

@@ -1,0 +1,119 @@
+-- What is printed of a whole input.
+--
+-- reported_at   what the end report says of a client that holds so many frames: how many, and its price there; nothing
+--               of a client that holds none
+-- reported      what it says of a client as the broker is
+-- Reports       what it prints of the clients above a number, by rising number
+-- LinesPrint    what is printed of lines on a broker, one value for each, under their numbers from one on; the calls that
+--               they make, and the broker after them
+-- PrintsAll     what is printed of an input on a new broker: of each of its lines, then the free frames, then each
+--               client; the calls that it makes, and the broker after them
+-- with_newline  the line of a value and its newline
+-- lines         these of several values, one after another
+-- LinesPerformed   lines at the front of an input were performed on a session, and the rest was not; what is printed of
+--                  the lines
+-- LinesPrinted     all lines of an input were performed, and what is printed of them was written
+-- StopsWithin      some lines of an input were performed, and the rest was not
+-- ReportPrinted    the end report of a session was written
+-- InputPrinted     an input was performed on a new broker, and all that is printed of it was written, and nothing else
+-- PrintedUnder     it was performed by a new session under a price
+-- Served           the first 16,777,216 bytes of an input, where its bytes are known, were performed on a new broker, and
+--                  what is printed of them was handed on to the writer below a buffer
+use Rattle.std.specs.Prelude.{◌≡◌, ℕ, zero, suc, ◌+◌, List, [], ◌∷◌, ◌++◌, take, length, Some, None, Option, IfSome}
+use Rattle.std.specs.List.{flat_map}
+use Rattle.std.specs.Io.KnownBytes.{Appends}
+use Rattle.std.specs.Io.Buffered.{writer_contents, writer_inner, writer_buffer}
+use Rattle.std.specs.declared.io.buffered.BufWriter.{BufWriter}
+use Rattle.rules.specs.Offers.{Meaning}
+use Rattle.events.specs.Input.{CutsOff, IsCutInto}
+use Rattle.laws.specs.Broker as rules
+use Rattle.laws.specs.Broker.{holding}
+use Rattle.laws.specs.Guarantees.{Guarantees}
+use Rattle.laws.specs.Questions.{price_at}
+use Rattle.pool.specs.View.{NextClient}
+use Rattle.broker.specs.View.{History}
+use Rattle.price.specs.declared.telling.Price.{Ghosts}
+use Rattle.session.specs.declared.printed.Held.{Held}
+use Rattle.session.specs.declared.printed.Printed.{Printed}
+use Rattle.session.specs.declared.printed.Printed.TheVariants as line
+use Rattle.session.specs.Printed.{printed_line}
+use Rattle.session.specs.Session.{Session, price_of, meaning, view, Calls, Led, LinePrints}
+
+abbrev pub reported_at : Meaning → rules.Broker → ℕ → ℕ → Option Held
+reported_at m b c zero = None
+reported_at m b c (suc n) = Some (record { frames = suc n; price = price_at m b c (suc n) })
+
+abbrev pub reported : Meaning → rules.Broker → ℕ → Option Held
+reported m b c = reported_at m b c (holding b c)
+
+pub data Reports (m : Meaning) (b : rules.Broker) : ℕ → List Printed → Type 0 where
+  end : {n : ℕ} → NextClient b n None → Reports m b n []
+  next : {n c : ℕ} {vs : List Printed} →
+      NextClient b n (Some c) → Reports m b c vs → Reports m b n (line.Client c (reported m b c) ∷ vs)
+
+pub data LinesPrint (m : Meaning) : rules.Broker → ℕ → List (List ℕ) → List Printed → Calls → rules.Broker → Type 0 where
+  none : {b : rules.Broker} {n : ℕ} → LinesPrint m b n [] [] [] b
+  then : {b d e : rules.Broker} {n : ℕ} {text : List ℕ} {texts : List (List ℕ)} {p : Printed} {vs : List Printed} {calls more : Calls} →
+      LinePrints m n b text p calls d → LinesPrint m d (n + 1) texts vs more e →
+      LinesPrint m b n (text ∷ texts) (p ∷ vs) (more ++ calls) e
+
+pub record PrintsAll (m : Meaning) (input : List ℕ) (all : List Printed) (calls : Calls) (d : rules.Broker) : Type 0 where
+  pub texts : List (List ℕ)
+  pub cut : IsCutInto input texts
+  pub of_lines : List Printed
+  pub performs : LinesPrint m rules.new_broker 1 texts of_lines calls d
+  pub of_clients : List Printed
+  pub reports : Reports m d 0 of_clients
+  pub whole : all ≡ of_lines ++ line.Free (length d.free) ∷ of_clients
+
+abbrev pub with_newline : Printed → List ℕ
+with_newline v = printed_line v ++ 10 ∷ []
+
+abbrev pub lines : List Printed → List ℕ
+lines vs = flat_map with_newline vs
+
+module _ {P : Type 0} {g : Ghosts P} where
+  pub record LinesPerformed (before : Session P g) (input rest : List ℕ) (all : List Printed) (after : Session P g) : Type 0 where
+    pub texts : List (List ℕ)
+    pub calls : Calls
+    pub cuts : CutsOff rest input texts
+    pub performs : LinesPrint (meaning before) (view before) 1 texts all calls (view after)
+    pub price : price_of after ≡ price_of before
+    -- whatever calls led to the session as it came, with these they lead to it as it is left
+    pub history : (h : Calls) → Led h before → Led (calls ++ h) after
+
+  pub record LinesPrinted (before : Session P g) (input : List ℕ) (after : Session P g) (held holds : Option (List ℕ)) : Type 0 where
+    pub all : List Printed
+    pub performed : LinesPerformed before input [] all after
+    pub written : Appends held holds (lines all)
+
+  abbrev pub StopsWithin : Session P g → List ℕ → Session P g → Type 0
+  StopsWithin before input after = (rest : List ℕ) × (all : List Printed) × LinesPerformed before input rest all after
+
+  pub record ReportPrinted (s : Session P g) (held holds : Option (List ℕ)) : Type 0 where
+    pub of_clients : List Printed
+    pub reports : Reports (meaning s) (view s) 0 of_clients
+    pub written : Appends held holds (lines (line.Free (length (view s).free) ∷ of_clients))
+
+pub record InputPrinted (m : Meaning) (input : List ℕ) (d : rules.Broker) (held holds : Option (List ℕ)) : Type 0 where
+  pub all : List Printed
+  pub calls : Calls
+  pub prints : PrintsAll m input all calls d
+  -- and nothing else is printed, no other calls are made, and no other broker is left
+  pub only : (vs : List Printed) (others : Calls) (e : rules.Broker) →
+      PrintsAll m input vs others e → (vs ≡ all) × (others ≡ calls) × (e ≡ d)
+  pub history : History m calls d
+  pub guarantees : Guarantees m calls
+  pub written : Appends held holds (lines all)
+
+abbrev pub PrintedUnder : {P : Type 0} {g : Ghosts P} → P → List ℕ → Option (List ℕ) → Option (List ℕ) → Session P g → Type 0
+PrintedUnder {g = g} price input held holds s = InputPrinted (g.meaning price) input (view s) held holds × (price_of s ≡ price)
+
+module _ {W A : Type 0} where
+  pub record Served (m : Meaning) (given : Option (List ℕ)) (contents : W → Option (List ℕ)) (before after : BufWriter W A) : Type 0 where
+    pub input : List ℕ
+    pub read : IfSome given (λ bytes. input ≡ take 16_777_216 bytes)
+    pub left : rules.Broker
+    pub printed : InputPrinted m input left (writer_contents contents before) (contents (writer_inner after))
+    -- nothing waits in the buffer
+    pub flushed : writer_buffer after ≡ []
