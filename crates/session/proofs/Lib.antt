@@ -4,3 +4,4 @@ mod Steps
 mod Asks
 mod OnePrinting
 mod Inputs
+mod LineExamples

@@ -2,3 +2,4 @@ pub mod Printed
 pub mod Session
 pub mod Asks
 pub mod Input
+pub mod Examples

@@ -2,10 +2,12 @@
 //! that is written into a borrowed buffer or printed.
 #![tactic(auto)]
 
+mod examples;
 mod input;
 mod printed;
 mod session;
 
+pub use examples::all_worked_examples_hold;
 pub use input::{print_input, serve, serve_by_class, serve_by_shares};
 pub use printed::{Grant, Held, Printed, Taken};
 pub use session::Session;
