@@ -17,7 +17,7 @@ use Rattle.pool.specs.declared.pool.Pool.{Pool}
 use Rattle.pool.specs.View.{client_of, view}
 use Rattle.pool.proofs.Grants.{noted, noted_numbered}
 use Rattle.broker.proofs.Noted.{few_stacked}
-use Rattle.session.specs.Input.{reported}
+use Rattle.session.specs.Input.{held_by}
 
 module _ (b : Pool) (c : ℕ) where
   -- no client holds more frames than a pool can have
@@ -42,7 +42,7 @@ module _ (b : Pool) (c : ℕ) where
 
 -- who has no price holds nothing
 pub unpriced : (m : Meaning) (b : Pool) (c n : ℕ) → n ≡ holding (view b) c → (r : Result Quote Refusal) →
-    Replies (price_entries (view b) c n) (λ q. q ≡ price_at m (view b) c n) r → ((q : Quote) → r ≡ Ok q → ⊥) → None ≡ reported m (view b) c
+    Replies (price_entries (view b) c n) (λ q. q ≡ price_at m (view b) c n) r → ((q : Quote) → r ≡ Ok q → ⊥) → None ≡ held_by m (view b) c
 unpriced m b c n e (Ok q) t never = absurd (never q refl)
 unpriced m b c n e (Err r) t never =
     let priced : 0 < holding (view b) c → ⊥ = λ h. first_or_clear (price_entries (view b) c n) r t (price_told b c (holder_there b c h) n (omega arith) (omega (arith, few_held b c))) in

@@ -5,9 +5,9 @@ ghost use Rattle.broker.specs.View.{Guaranteed};
 ghost use Rattle.events.specs.declared.event.Event.TheVariants.{Ask};
 ghost use Rattle.session.specs.Session.{broker_of, price_of, meaning, view, Performed, LinePerformed, NumberedLinePerformed};
 ghost use Rattle.session.specs.Asks.{HasPrice, price_with, Lost, taken_from};
-ghost use Rattle.session.specs.Input.{reported, LinesPrinted, StopsWithin, ReportPrinted};
+ghost use Rattle.session.specs.Input.{held_by, LinesPrinted, StopsWithin, ReportPrinted};
 
-use crate::printed::{Grant, Held, Printed, Taken};
+use crate::printed::{Grant, Held, Printed, Reported, Taken};
 use broker::Broker;
 use events::{Event, Lines, at_line, read};
 use price::Price;
@@ -145,7 +145,7 @@ impl<P: Price> Session<P> {
 
     /// What the end report says of a client: how many frames it holds, and its price there; none where it holds nothing.
     pub fn held(&self, client: u32) -> Option<Held>
-        ensures { result ≡ reported (meaning self.now) (view self.now) client }
+        ensures { result ≡ held_by (meaning self.now) (view self.now) client }
     {
         let frames = self.broker.holding(client).ok()?;
         let price = self.broker.price_at(client, frames).ok()?;
@@ -157,11 +157,11 @@ impl<P: Price> Session<P> {
         ensures { OnOk result (ReportPrinted self.now (W.contents out.old) (W.contents out.new)) }
     {
         let frames = self.broker.free_frames();
-        Printed::Free { frames }.print(out)?;
+        Reported::Free { frames }.print(out)?;
         let mut after = 0;
         while let Some(client) = self.broker.next_client(after) {
             let held = self.held(client);
-            Printed::Client { client, held }.print(out)?;
+            Reported::Client { client, held }.print(out)?;
             after = client;
         }
         Ok(())
