@@ -16,8 +16,9 @@ use Rattle.pool.specs.Members.{member_of}
 use Rattle.pool.specs.declared.pool.Pool.{Pool}
 use Rattle.pool.specs.View.{view}
 use Rattle.pool.proofs.Tables.{few_held}
-use Rattle.pool.proofs.Grants.{noted, member_numbered}
-use Rattle.session.specs.Input.{reported}
+use Rattle.pool.proofs.Grants.{noted}
+use Rattle.pool.proofs.Records.{member_numbered}
+use Rattle.session.specs.Input.{held_by}
 
 module _ (b : Pool) (c : ℕ) where
   -- who holds a frame is there
@@ -34,7 +35,7 @@ module _ (b : Pool) (c : ℕ) where
 
 -- who has no price holds nothing
 pub unpriced : (m : Meaning) (b : Pool) (c n : ℕ) → n ≡ holding (view b) c → (r : Result Quote Refusal) →
-    Replies (price_entries (view b) c n) (λ q. q ≡ price_at m (view b) c n) r → ((q : Quote) → r ≡ Ok q → ⊥) → None ≡ reported m (view b) c
+    Replies (price_entries (view b) c n) (λ q. q ≡ price_at m (view b) c n) r → ((q : Quote) → r ≡ Ok q → ⊥) → None ≡ held_by m (view b) c
 unpriced m b c n e (Ok q) t never = absurd (never q refl)
 unpriced m b c n e (Err r) t never =
     let priced : 0 < holding (view b) c → ⊥ = λ h. first_or_clear (price_entries (view b) c n) r t (price_told b c (holder_there b c h) n (omega arith) (omega (arith, few_held b c))) in

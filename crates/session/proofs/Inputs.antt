@@ -1,9 +1,10 @@
 -- What a session prints of lines, of its clients, and of a whole input.
-use Rattle.std.proofs.Common.{◌≡◌, ℕ, ◌+◌, ◌<◌, ◌≤◌, List, [], ◌∷◌, ◌++◌, length, take, Some, None, Option, sym, refl, ap, ◌∙◌, subst, append_assoc, arith}
+use Rattle.std.proofs.Common.{◌≡◌, ℕ, ◌+◌, ◌<◌, ◌≤◌, List, [], ◌∷◌, ◌++◌, length, take, Some, None, Ok, Err, Option, Result, IfSome, OnOk, sym, refl, ap, ◌∙◌, subst, append_assoc, arith}
 use Rattle.std.proofs.KnownBytes.{Appends-trans}
 use Rattle.std.proofs.lemmas.List.{append-nil, flat_map_more, length_push, take-take}
-use Rattle.std.proofs.lemmas.Grind.{flat_map-append}
-use Rattle.std.specs.Io.KnownBytes.{Appends}
+use Rattle.std.specs.Io.KnownBytes.{Appends, Keeps, append_known}
+use Rattle.std.specs.Io.Buffered.{writer_contents, writer_inner, writer_buffer}
+use Rattle.std.specs.declared.io.buffered.BufWriter.{BufWriter}
 use Rattle.rules.specs.Offers.{Meaning}
 use Rattle.events.specs.Input as input
 use Rattle.events.specs.Input.{CutsOff, GivesLine}
@@ -14,9 +15,11 @@ use Rattle.pool.specs.View.{IsNextClient}
 use Rattle.broker.specs.View.{Guaranteed, History}
 use Rattle.price.specs.declared.price.Price.{Ghosts}
 use Rattle.session.specs.declared.printed.Printed.{Printed}
-use Rattle.session.specs.declared.printed.Printed.TheVariants as line
+use Rattle.session.specs.declared.printed.Reported.{Reported}
+use Rattle.session.specs.declared.printed.Reported.TheVariants as report
 use Rattle.session.specs.Session.{Session, price_of, meaning, view, Calls, LinePrints, NumberedLinePerformed}
-use Rattle.session.specs.Input.{reported, Reports, LinesPrint, PrintsAll, with_newline, lines, LinesPerformed, LinesPrinted, ReportPrinted, PrintedUnder, end, next, none, then}
+use Rattle.session.specs.Printed.{printed_line, reported_line}
+use Rattle.session.specs.Input.{held_by, ReportsClients, LinesPrint, PrintsAll, ended, lines, LinesPerformed, LinesPrinted, ReportPrinted, InputPrinted, PrintedUnder, Served, end, next, none, then}
 use Rattle.session.proofs.OnePrinting.{prints_once}
 
 -- one line more
@@ -57,24 +60,25 @@ module _ {P : Type 0} {g : Ghosts P} where
 
   -- the end of the input
   pub all_through : {first s : Session P g} {whole rest left : List ℕ} {n : ℕ} {vs : List Printed} {held holds : Option (List ℕ)} →
-      Through first whole n rest vs s → Appends held holds (lines vs) → GivesLine rest None left → LinesPrinted first whole s held holds
-  all_through {vs = vs} through written nothing = record { all = vs; performed = rw nothing.0 at through.performed; written = written }
+      Through first whole n rest vs s → Appends held holds (lines printed_line vs) → GivesLine rest None left → LinesPrinted first whole s held holds
+  all_through {vs = vs} through written nothing = record { values = vs; performed = rw nothing.0 at through.performed; written = written }
 
-  -- what the end report tells of clients up to one, with whatever it tells of those above that one behind it
-  pub record Upto (s : Session P g) (n : ℕ) (vs : List Printed) : Type 0 where
-    pub behind : (ws : List Printed) → Reports (meaning s) (view s) n ws → Reports (meaning s) (view s) 0 (vs ++ ws)
+  -- what the end report prints of clients up to one, with whatever it prints of those above that one behind it
+  pub record Upto (s : Session P g) (n : ℕ) (rs : List Reported) : Type 0 where
+    pub behind : (more : List Reported) → ReportsClients (meaning s) (view s) n more → ReportsClients (meaning s) (view s) 0 (rs ++ more)
 
-  pub client_more : {s : Session P g} {n c : ℕ} {vs : List Printed} → Upto s n vs → IsNextClient (view s) n (Some c) →
-      Upto s c (vs ++ line.Client c (reported (meaning s) (view s) c) ∷ [])
+  pub client_more : {s : Session P g} {n c : ℕ} {rs : List Reported} → Upto s n rs → IsNextClient (view s) n (Some c) →
+      Upto s c (rs ++ report.Client c (held_by (meaning s) (view s) c) ∷ [])
   client_more upto above = record { behind = λ ws more. rw append_assoc (upto.behind _ (next above more)) }
 
-  pub clients_over : {s : Session P g} {n : ℕ} {vs : List Printed} {held holds : Option (List ℕ)} → Upto s n vs → IsNextClient (view s) n None →
-      Appends held holds (lines (line.Free (length (view s).free) ∷ vs)) → ReportPrinted s held holds
-  clients_over {vs = vs} upto none_above written = record { of_clients = vs; reports = rw append-nil at (upto.behind [] (end none_above)); written = written }
+  pub clients_over : {s : Session P g} {n : ℕ} {rs : List Reported} {held holds : Option (List ℕ)} → Upto s n rs → IsNextClient (view s) n None →
+      Appends held holds (lines reported_line (report.Free (length (view s).free) ∷ rs)) → ReportPrinted s held holds
+  clients_over {rs = rs} upto none_above written =
+      record { report = _; reports = (rs, rw append-nil at (upto.behind [] (end none_above)), refl); written = written }
 
 -- one value more is printed
-pub value_more : (a b c : Option (List ℕ)) (vs : List Printed) (v : Printed) → Appends a b (lines vs) → Appends b c (with_newline v) → Appends a c (lines (vs ++ v ∷ []))
-value_more a b c vs v so_far more = subst (Appends a c) (flat_map_more with_newline [] vs v) (Appends-trans a b c (lines vs) (with_newline v) so_far more)
+pub value_more : {V : Type 0} (spelled : V → List ℕ) (a b c : Option (List ℕ)) (vs : List V) (v : V) → Appends a b (lines spelled vs) → Appends b c (ended spelled v) → Appends a c (lines spelled (vs ++ v ∷ []))
+value_more spelled a b c vs v so_far more = subst (Appends a c) (flat_map_more (ended spelled) [] vs v) (Appends-trans a b c (lines spelled vs) (ended spelled v) so_far more)
 
 -- an input printed by a new session
 pub input_printed : {P : Type 0} {g : Ghosts P} {first s : Session P g} (under : P) (whole : List ℕ) (a b c : Option (List ℕ)) →
@@ -84,26 +88,54 @@ input_printed {g = g} {s = s} under whole a b c new guaranteed price by_lines by
     let m = g.meaning under in
     let so_far = by_lines.performed in
     let d = view s in
-    let prints : PrintsAll m whole (by_lines.all ++ line.Free (length d.free) ∷ by_clients.of_clients) so_far.calls d =
+    let prints : PrintsAll m whole by_lines.values by_clients.report so_far.calls d =
     record {
       texts = so_far.texts;
       cut = so_far.cuts;
-      of_lines = by_lines.all;
       performs = rw (meaning, price, new) at so_far.performs;
-      of_clients = by_clients.of_clients;
       reports = rw (meaning, so_far.price, price) at by_clients.reports;
-      whole = refl;
     }
     in
     let led : History m so_far.calls d = rw (append-nil, meaning, so_far.price, price) at (so_far.history [] (rw new history.start)) in (
       record {
-        all = by_lines.all ++ line.Free (length d.free) ∷ by_clients.of_clients;
+        values = by_lines.values;
+        report = by_clients.report;
         calls = so_far.calls;
         prints = prints;
-        only = λ vs others e other. prints_once m whole vs _ others so_far.calls e d other prints;
+        only = λ vs rs others e other. prints_once m whole vs _ rs _ others so_far.calls e d other prints;
         history = led;
         guarantees = (rw (meaning, price) at guaranteed) so_far.calls d led;
-        written = rw flat_map-append (Appends-trans a b c (lines by_lines.all) (lines (line.Free (length d.free) ∷ by_clients.of_clients)) by_lines.written by_clients.written);
+        written = Appends-trans a b c (lines printed_line by_lines.values) (lines reported_line by_clients.report) by_lines.written by_clients.written;
       },
       so_far.price ∙ price,
     )
+
+-- what is kept by a writer whose buffer is then empty, the writer below it holds
+handed_on : (a b d : Option (List ℕ)) (bs buffer : List ℕ) → Appends a b bs → Keeps b (append_known d buffer) → buffer ≡ [] → Appends a d bs
+handed_on None b d bs buffer p q e = tt
+handed_on (Some x) None d bs buffer p q e = absurd p
+handed_on (Some x) (Some y) None bs buffer p q e = absurd q
+handed_on (Some x) (Some y) (Some z) bs buffer p q e = rw (e, append-nil) at q ∙ p
+
+-- an input that was read is served once the buffer has been flushed
+pub served : {W A T E : Type 0} {m : Meaning} {input : List ℕ} {left : rules.Broker} {mid : Option (List ℕ)} (given : Option (List ℕ)) (contents : W → Option (List ℕ)) (before after : BufWriter W A) (flushed : Result T E) →
+    IfSome given (λ bytes. input ≡ take 16_777_216 bytes) → InputPrinted m input left (writer_contents contents before) mid →
+    Keeps mid (writer_contents contents after) → OnOk flushed (writer_buffer after ≡ []) → OnOk flushed (Served m given contents before after)
+served {mid = mid} given contents before after (Ok x) read p kept empty =
+    record {
+      input = _;
+      read = read;
+      left = _;
+      printed = record {
+        values = p.values;
+        report = p.report;
+        calls = p.calls;
+        prints = p.prints;
+        only = p.only;
+        history = p.history;
+        guarantees = p.guarantees;
+        written = handed_on (writer_contents contents before) mid (contents (writer_inner after)) _ _ p.written kept empty;
+      };
+      flushed = empty;
+    }
+served given contents before after (Err e) read p kept empty = tt

@@ -1,5 +1,5 @@
 -- One thing is printed of an input, by the same calls.
-use Rattle.std.proofs.Common.{◌≡◌, ℕ, ◌+◌, List, Some, Ok, Err, sym, refl, ◌∙◌, arith}
+use Rattle.std.proofs.Common.{◌≡◌, ℕ, ◌+◌, List, Some, Ok, Err, refl, arith}
 use Rattle.rules.specs.Offers.{Meaning}
 use Rattle.events.specs.declared.event.Event.{Event}
 use Rattle.events.proofs.OneCut.{one_cut}
@@ -9,9 +9,10 @@ use Rattle.laws.specs.Calls.{Answer}
 use Rattle.laws.proofs.One.{one_answer}
 use Rattle.pool.specs.View.{IsNextClient}
 use Rattle.session.specs.declared.printed.Printed.{Printed}
+use Rattle.session.specs.declared.printed.Reported.{Reported}
 use Rattle.session.specs.Session as session
 use Rattle.session.specs.Session.{Calls, Outcome, Prints, Performs, LinePerforms}
-use Rattle.session.specs.Input.{Reports, LinesPrint, PrintsAll, end, next, none, then}
+use Rattle.session.specs.Input.{ReportsClients, Reports, LinesPrint, PrintsAll, end, next, none, then}
 
 -- the same is printed, by the same calls, and the same broker is left
 abbrev Same : {A : Type 0} → A → A → Calls → Calls → Broker → Broker → Type 0
@@ -56,14 +57,17 @@ module _ (m : Meaning) (b : Broker) where
   next_once : (n c d : ℕ) → IsNextClient b n (Some c) → IsNextClient b n (Some d) → c ≡ d
   next_once n c d x y = grind arith
 
-  report_once : (n : ℕ) (vs ws : List Printed) → Reports m b n vs → Reports m b n ws → vs ≡ ws
-  report_once n vs ws (end x) (end y) = refl
-  report_once n vs ws (end x) (next {c = c} y more) = absurd (y.1 (x c y.0))
-  report_once n vs ws (next {c = c} y more) (end x) = absurd (y.1 (x c y.0))
-  report_once n vs ws (next {c = c} {vs = us} x more) (next {c = d} {vs = ts} y rest) =
+  clients_once : (n : ℕ) (rs qs : List Reported) → ReportsClients m b n rs → ReportsClients m b n qs → rs ≡ qs
+  clients_once n rs qs (end x) (end y) = refl
+  clients_once n rs qs (end x) (next {c = c} y more) = absurd (y.1 (x c y.0))
+  clients_once n rs qs (next {c = c} y more) (end x) = absurd (y.1 (x c y.0))
+  clients_once n rs qs (next {c = c} {rs = us} x more) (next {c = d} {rs = ts} y rest) =
       let same = next_once n c d x y in
-      let tails = report_once d us ts (rw same at more) rest in
+      let tails = clients_once d us ts (rw same at more) rest in
       cc
+
+  report_once : {rs qs : List Reported} → Reports m b rs → Reports m b qs → rs ≡ qs
+  report_once (us, by, e) (ts, too, f) = let same = clients_once 0 us ts by too in cc
 
 lines_once : (m : Meaning) (b : Broker) (n : ℕ) {texts : List (List ℕ)} {vs ws : List Printed} {h k : Calls} {d w : Broker} →
     LinesPrint m b n texts vs h d → LinesPrint m b n texts ws k w → Same vs ws h k d w
@@ -73,8 +77,7 @@ lines_once m b n (then (r, e, x) more) (then {d = w} (o, f, y) rest) =
     let (tails, others, left) = lines_once m w (n + 1) (rw brokers at more) rest in
     (cc, cc, left)
 
-pub prints_once : (m : Meaning) (input : List ℕ) (vs ws : List Printed) (h k : Calls) (d w : Broker) → PrintsAll m input vs h d → PrintsAll m input ws k w → Same vs ws h k d w
-prints_once m input vs ws h k d w p q =
-    let (lines, calls, brokers) = lines_once m _ 1 (rw (one_cut input p.texts q.texts p.cut q.cut) at p.performs) q.performs in
-    let clients = report_once m w 0 p.of_clients q.of_clients (rw brokers at p.reports) q.reports in
-    (p.whole ∙ (rw (lines, brokers, clients) (sym q.whole)), calls, brokers)
+pub prints_once : (m : Meaning) (input : List ℕ) (vs ws : List Printed) (rs qs : List Reported) (h k : Calls) (d w : Broker) → PrintsAll m input vs rs h d → PrintsAll m input ws qs k w → (vs ≡ ws) × (rs ≡ qs) × (h ≡ k) × (d ≡ w)
+prints_once m input vs ws rs qs h k d w p q =
+    let (values, calls, brokers) = lines_once m _ 1 (rw (one_cut input p.texts q.texts p.cut q.cut) at p.performs) q.performs in
+    (values, report_once m w (rw brokers at p.reports) q.reports, calls, brokers)

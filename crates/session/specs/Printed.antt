@@ -7,7 +7,8 @@
 -- grant_line     the line of a grant, of a free frame or of a frame that was taken from a client
 -- client_head    a client, and how many frames it holds
 -- client_line    the line of a client in the end report, of one that holds nothing or of one that holds frames
--- printed_line   the line of each value
+-- printed_line   what is printed of an event line
+-- reported_line  a line of the end report
 use Rattle.std.specs.Prelude.{ℕ, List, ◌++◌, Some, None, codes, decimal, Option}
 use Rattle.rules.specs.declared.offer.Quote.{Quote}
 use Rattle.events.specs.LineFaults.{fault_line}
@@ -16,6 +17,8 @@ use Rattle.session.specs.declared.printed.Taken.{Taken}
 use Rattle.session.specs.declared.printed.Held.{Held}
 use Rattle.session.specs.declared.printed.Printed.{Printed}
 use Rattle.session.specs.declared.printed.Printed.TheVariants as line
+use Rattle.session.specs.declared.printed.Reported.{Reported}
+use Rattle.session.specs.declared.printed.Reported.TheVariants as report
 
 abbrev pub field : List ℕ → ℕ → List ℕ
 field word n = word ++ decimal n
@@ -53,5 +56,7 @@ printed_line (line.Leave client frames) = field (codes "leave ") client ++ field
 printed_line (line.Estimate client) = field (codes "estimate ") client
 printed_line (line.Clock tick ended) = field (codes "clock ") tick ++ field (codes " ended ") ended
 printed_line (line.Refused f) = fault_line f
-printed_line (line.Free frames) = field (codes "end free ") frames
-printed_line (line.Client client held) = client_line client held
+
+abbrev pub reported_line : Reported → List ℕ
+reported_line (report.Free frames) = field (codes "end free ") frames
+reported_line (report.Client client held) = client_line client held

@@ -1,6 +1,7 @@
 -- A session: event lines performed on a broker, and what is printed of each.
 --
 -- Session         as in the code
+-- broker_of       its broker
 -- price_of, meaning, view   a session as a value: its price, what that tells, and its broker as the rules speak of it
 -- Calls           calls with their answers, the latest first
 -- Led             calls that lead from a new broker to the session's
@@ -11,7 +12,7 @@
 -- grant_of        what is printed of a slip: the asker's price at its holding with the new frame, and from whom it came
 -- Performs        the outcome of an event on a broker, the calls that it makes, and the broker after them
 -- LinePerforms    the same of a line
--- numbered        what is printed of an outcome on a line with a number: a refusal is printed with it
+-- printed_of      what is printed of a line, or its fault
 -- LinePrints      what is printed of a line with a number, the calls that it makes, and the broker after them
 -- Performed       an event was performed on a session
 -- LinePerformed   a line was
@@ -22,12 +23,15 @@ use Rattle.rules.specs.declared.refusal.Refusal.{Refusal}
 use Rattle.events.specs.declared.event.Event.{Event}
 use Rattle.events.specs.declared.event.Event.TheVariants as event
 use Rattle.events.specs.Faults.{Verdict}
+use Rattle.events.specs.LineFaults.{at_line}
+use Rattle.events.specs.declared.line_fault.LineFault.{LineFault}
 use Rattle.laws.specs.Broker as rules
 use Rattle.laws.specs.Broker.{Estimate, SlipNumbers, holding}
 use Rattle.laws.specs.Calls.{Call, Start, Admit, Ask, Deliver, HandBack, Leave, SetEstimate, SetClock, Admission}
 use Rattle.laws.specs.Calls.{Answer, Done, Granted, Frame, Count, Step}
 use Rattle.laws.specs.Histories as history
 use Rattle.laws.specs.Questions.{price_at}
+use Rattle.broker.specs.declared.broker.Broker.{Broker}
 use Rattle.broker.specs.View as broker
 use Rattle.price.specs.declared.price.Price.{Ghosts}
 use Rattle.session.specs.declared.printed.Grant.{Grant}
@@ -40,6 +44,9 @@ abbrev pub Calls : Type 0
 Calls = List history.Event
 
 module _ {P : Type 0} {g : Ghosts P} where
+  abbrev pub broker_of : Session P g → Broker P g
+  broker_of s = s.broker
+
   -- it never changes
   abbrev pub price_of : Session P g → P
   price_of s = s.broker.price
@@ -108,12 +115,12 @@ pub data LinePerforms (m : Meaning) (b : rules.Broker) (text : List ℕ) : Outco
   -- or it is malformed, and makes no call
   malformed : {r : Refusal} → Verdict text (Err r) → LinePerforms m b text (Err r) [] b
 
-abbrev pub numbered : ℕ → Outcome → Printed
-numbered n (Ok p) = p
-numbered n (Err r) = line.Refused (record { line = n; refusal = r })
+abbrev pub printed_of : Result Printed LineFault → Printed
+printed_of (Ok p) = p
+printed_of (Err f) = line.Refused f
 
 abbrev pub LinePrints : Meaning → ℕ → rules.Broker → List ℕ → Printed → Calls → rules.Broker → Type 0
-LinePrints m n b text p calls d = (r : Outcome) × (p ≡ numbered n r) × LinePerforms m b text r calls d
+LinePrints m n b text p calls d = (r : Outcome) × (p ≡ printed_of (at_line n r)) × LinePerforms m b text r calls d
 
 module _ {P : Type 0} {g : Ghosts P} where
   pub record Performed (before : Session P g) (e : Event) (r : Outcome) (after : Session P g) : Type 0 where
@@ -130,4 +137,4 @@ module _ {P : Type 0} {g : Ghosts P} where
         LinePerforms (meaning before) (view before) whole r calls (view after) → Led (calls ++ h) after
 
   abbrev pub NumberedLinePerformed : ℕ → Session P g → List ℕ → Printed → Session P g → Type 0
-  NumberedLinePerformed n before text p after = (r : Outcome) × (p ≡ numbered n r) × LinePerformed before text r after
+  NumberedLinePerformed n before text p after = (r : Outcome) × (p ≡ printed_of (at_line n r)) × LinePerformed before text r after

@@ -9,5 +9,5 @@ mod session;
 
 pub use examples::all_worked_examples_hold;
 pub use input::{print_input, serve, serve_by_class, serve_by_shares};
-pub use printed::{Grant, Held, Printed, Taken};
+pub use printed::{Grant, Held, Printed, Reported, Taken};
 pub use session::Session;

@@ -3,7 +3,7 @@
 
 ghost use Rattle.std.specs.Prelude.{◌≡◌, ◌≤◌, ◌++◌, length, decimal};
 ghost use Rattle.session.specs.Printed.{field, quote_field, quote_text, grant_head, grant_line, client_head, client_line};
-ghost use Rattle.session.specs.Printed.{printed_line};
+ghost use Rattle.session.specs.Printed.{printed_line, reported_line};
 ghost use Rattle.text.specs.Texts.{kept, spelt};
 
 use events::LineFault;
@@ -33,7 +33,7 @@ pub struct Held {
     pub price: Quote,
 }
 
-/// A printed line.
+/// What is printed of an event line.
 #[derive(Clone, Copy, Drop)]
 pub enum Printed {
     /// `pool U frames F`: an accepted start.
@@ -52,9 +52,14 @@ pub enum Printed {
     Clock { tick: u32, ended: u32 },
     /// `line N refused R`, or `line N text K at C`: a refused or a malformed line.
     Refused(LineFault),
-    /// `end free N`: the head of the end report.
+}
+
+/// A line of the end report.
+#[derive(Clone, Copy, Drop)]
+pub enum Reported {
+    /// `end free N`: the head of the report.
     Free { frames: u32 },
-    /// `client C holds H price P`, or `client C holds 0 price -`: a client in the end report.
+    /// `client C holds H price P`, or `client C holds 0 price -`.
     Client { client: u32, held: Option<Held> },
 }
 
@@ -83,8 +88,18 @@ impl Line for Printed {
                 add_number(text, b" ended ", ended);
             }
             Printed::Refused(fault) => fault.add_to(text),
-            Printed::Free { frames } => add_number(text, b"end free ", frames),
-            Printed::Client { client, held } => add_client(text, client, held),
+        }
+    }
+}
+
+// Apart from `Printed`, so that the printing of a line is compiled into the loop over the lines.
+impl Line for Reported {
+    ghost spelling = { reported_line };
+
+    fn add_to(&self, text: &mut Text) {
+        match *self {
+            Reported::Free { frames } => add_number(text, b"end free ", frames),
+            Reported::Client { client, held } => add_client(text, client, held),
         }
     }
 }

@@ -3,13 +3,13 @@ ghost use Rattle.std.specs.Prelude.{◌≡◌, IfOk, OnOk, OnErr};
 ghost use Rattle.laws.specs.Broker.{new_broker};
 ghost use Rattle.broker.specs.View.{Guaranteed};
 ghost use Rattle.events.specs.declared.event.Event.TheVariants.{Ask};
-ghost use Rattle.session.specs.Session.{price_of, meaning, view, Performed, LinePerformed, NumberedLinePerformed};
+ghost use Rattle.session.specs.Session.{broker_of, price_of, meaning, view, Performed, LinePerformed, NumberedLinePerformed};
 ghost use Rattle.session.specs.Asks.{HasPrice, price_with, Lost, taken_from};
-ghost use Rattle.session.specs.Input.{reported, LinesPrinted, StopsWithin, ReportPrinted};
+ghost use Rattle.session.specs.Input.{held_by, LinesPrinted, StopsWithin, ReportPrinted};
 
-use crate::printed::{Grant, Held, Printed, Taken};
+use crate::printed::{Grant, Held, Printed, Reported, Taken};
 use broker::Broker;
-use events::{Event, LineFault, Lines, read};
+use events::{Event, Lines, at_line, read};
 use price::Price;
 use rules::{Quote, Refusal};
 use std::io;
@@ -32,6 +32,13 @@ impl<P: Price> Session<P> {
         Session {
             broker: Broker::new(price),
         }
+    }
+
+    /// The broker, to be asked questions.
+    pub fn broker(&self) -> &Broker<P>
+        ensures { result.now ≡ broker_of self.now }
+    {
+        &self.broker
     }
 
     /// The price of a client at its holding and so many frames more.
@@ -118,12 +125,7 @@ impl<P: Price> Session<P> {
     pub fn line(&mut self, number: u64, line: &[u8]) -> Printed
         ensures { NumberedLinePerformed number self.old line.now result self.new }
     {
-        self.perform_line(line).unwrap_or_else(|refusal| {
-            Printed::Refused(LineFault {
-                line: number,
-                refusal,
-            })
-        })
+        at_line(number, self.perform_line(line)).unwrap_or_else(Printed::Refused)
     }
 
     /// Performs the lines of an input, and prints what comes of each, in order, under the line's number, from 1 on.
@@ -141,9 +143,9 @@ impl<P: Price> Session<P> {
         Ok(())
     }
 
-    /// How many frames a client holds and what it pays for the last; none where it holds nothing.
-    fn held(&self, client: u32) -> Option<Held>
-        ensures { result ≡ reported (meaning self.now) (view self.now) client }
+    /// What the end report says of a client: how many frames it holds, and its price there; none where it holds nothing.
+    pub fn held(&self, client: u32) -> Option<Held>
+        ensures { result ≡ held_by (meaning self.now) (view self.now) client }
     {
         let frames = self.broker.holding(client).ok()?;
         let price = self.broker.price_at(client, frames).ok()?;
@@ -155,11 +157,11 @@ impl<P: Price> Session<P> {
         ensures { OnOk result (ReportPrinted self.now (W.contents out.old) (W.contents out.new)) }
     {
         let frames = self.broker.free_frames();
-        Printed::Free { frames }.print(out)?;
+        Reported::Free { frames }.print(out)?;
         let mut after = 0;
         while let Some(client) = self.broker.next_client(after) {
             let held = self.held(client);
-            Printed::Client { client, held }.print(out)?;
+            Reported::Client { client, held }.print(out)?;
             after = client;
         }
         Ok(())

@@ -1,7 +1,7 @@
 //! Printed lines: one of each kind, the longest, and buffers that are too short.
 use events::LineFault;
 use rules::{Fault, FaultKind, Quote, Refusal};
-use session::{Grant, Held, Printed, Taken};
+use session::{Grant, Held, Printed, Reported, Taken};
 use std::process::Abort;
 use std::test::Fail;
 use text::Line;
@@ -21,7 +21,7 @@ const LARGEST: Quote = Quote {
 };
 
 /// Whether a value is printed as this line, and all behind the line stays as it was.
-pub(crate) fn prints(rt: &impl Abort, value: Printed, line: &[u8]) -> Result<(), Fail> {
+pub(crate) fn prints<V: Line + Drop>(rt: &impl Abort, value: V, line: &[u8]) -> Result<(), Fail> {
     let mut out = [b'#'; 128];
     let n = value.write(&mut out)?;
     assert!(rt; n <= 128);
@@ -31,7 +31,7 @@ pub(crate) fn prints(rt: &impl Abort, value: Printed, line: &[u8]) -> Result<(),
 }
 
 /// One line of each kind that has no price.
-const PLAIN: [(Printed, &[u8]); 9] = [
+const PLAIN: [(Printed, &[u8]); 8] = [
     (Printed::Pool { unit: 7, frames: 3 }, b"pool 7 frames 3"),
     (Printed::Admit { client: 1 }, b"admit 1"),
     (
@@ -67,7 +67,6 @@ const PLAIN: [(Printed, &[u8]); 9] = [
         }),
         b"line 10 text 3 at 3",
     ),
-    (Printed::Free { frames: 0 }, b"end free 0"),
 ];
 
 #[test]
@@ -78,8 +77,8 @@ fn lines_without_a_price(rt: HostRuntime) -> Result<(), Fail> {
     Ok(())
 }
 
-/// Grants and clients, with and without their second part, and the longest line.
-const PRICED: [(Printed, &[u8]); 5] = [
+/// Grants, with and without their second part, and the longest line.
+const PRICED: [(Printed, &[u8]); 3] = [
     (
         Printed::Grant(Grant {
             client: 2,
@@ -103,23 +102,6 @@ const PRICED: [(Printed, &[u8]); 5] = [
         b"grant 1 frame 3 from 2 paying 0:300/1 over 0:100/3",
     ),
     (
-        Printed::Client {
-            client: 1,
-            held: Some(Held {
-                frames: 3,
-                price: LOW,
-            }),
-        },
-        b"client 1 holds 3 price 0:100/3",
-    ),
-    (
-        Printed::Client {
-            client: 3,
-            held: None,
-        },
-        b"client 3 holds 0 price -",
-    ),
-    (
         Printed::Grant(Grant {
             client: u32::MAX,
             frame: u32::MAX,
@@ -133,9 +115,39 @@ const PRICED: [(Printed, &[u8]); 5] = [
     ),
 ];
 
+/// The lines of the end report: its head, and clients with and without frames.
+const REPORTED: [(Reported, &[u8]); 3] = [
+    (Reported::Free { frames: 0 }, b"end free 0"),
+    (
+        Reported::Client {
+            client: 1,
+            held: Some(Held {
+                frames: 3,
+                price: LOW,
+            }),
+        },
+        b"client 1 holds 3 price 0:100/3",
+    ),
+    (
+        Reported::Client {
+            client: 3,
+            held: None,
+        },
+        b"client 3 holds 0 price -",
+    ),
+];
+
 #[test]
 fn lines_with_a_price(rt: HostRuntime) -> Result<(), Fail> {
     for (value, line) in PRICED {
+        prints(&rt, value, line)?;
+    }
+    Ok(())
+}
+
+#[test]
+fn lines_of_the_end_report(rt: HostRuntime) -> Result<(), Fail> {
+    for (value, line) in REPORTED {
         prints(&rt, value, line)?;
     }
     Ok(())
