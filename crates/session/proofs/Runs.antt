@@ -23,8 +23,8 @@ use Rattle.session.specs.declared.run.Stage.TheVariants.{Reading, Reporting}
 use Rattle.session.specs.Session.{Lined}
 use Rattle.session.specs.Run.{held_of, Reports, StillAt, StillPrints, left_at, left, Nexts, Run, Gives, over, client, report, then, none, some}
 use Rattle.session.proofs.Printing.{stays}
-use Rattle.pool.proofs.Tables.{few_held}
-use Rattle.session.proofs.Holding.{holder_there, there_numbered, price_told}
+use Rattle.pool.proofs.Tables.{few_held, there_numbered}
+use Rattle.session.proofs.Holding.{holder_there, price_told}
 
 -- who has no price holds nothing
 pub unpriced : {P : Type 0} {g : Ghosts P} (b : Broker P g) (c n : ℕ) → n ≡ holding (view b) c → (r : Result Quote Refusal) →
