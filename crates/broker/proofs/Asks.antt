@@ -39,16 +39,16 @@ granted_some zero nobody (grants.nothing none) (inr (_, may), ne) = absurd (omeg
 granted_some (suc p) nobody (grants.nothing none) (inr (_, may), ne) = absurd (omega (arith, may.0.beyond, ap length (none ne)))
 
 -- a frame that was granted from where it may come from is a step
-pub granted_step : {m : Meaning} {v : rules.Broker} {c p : ℕ} {s : SlipNumbers} {w : rules.Broker} → v.clients 0 ≡ None → Grants v c p (Some s) w → IsClear m v (Ask c) × (IsSource m v c p × (p ≢ c)) → Step m v (Ask c) (Ok (Granted s)) w
-granted_step nobody (grants.free it top) (clear, (inl (z, some), ne)) = accepted clear (granted_free it top)
-granted_step nobody (grants.free it top) (clear, (inr (none, may), ne)) = cc
-granted_step nobody (grants.from off it its top) (clear, (inl (z, some), ne)) = cc
-granted_step {m} {v} nobody (grants.from off it its top) (clear, (inr (none, may), ne)) = subst (Step m v (Ask _) (Ok (Granted _))) (cc) (accepted clear (granted_from it none may its top))
+pub grant_step : {m : Meaning} {v : rules.Broker} {c p : ℕ} {s : SlipNumbers} {w : rules.Broker} → v.clients 0 ≡ None → Grants v c p (Some s) w → IsClear m v (Ask c) × (IsSource m v c p × (p ≢ c)) → Step m v (Ask c) (Ok (Granted s)) w
+grant_step nobody (grants.free it top) (clear, (inl (z, some), ne)) = accepted clear (granted_free it top)
+grant_step nobody (grants.free it top) (clear, (inr (none, may), ne)) = cc
+grant_step nobody (grants.from off it its top) (clear, (inl (z, some), ne)) = cc
+grant_step {m} {v} nobody (grants.from off it its top) (clear, (inr (none, may), ne)) = subst (Step m v (Ask _) (Ok (Granted _))) (cc) (accepted clear (granted_from it none may its top))
 
 -- it opens the passage of its slip, and took no frame of its own
-pub granted_opens : {v : rules.Broker} {c p : ℕ} {s : SlipNumbers} {w : rules.Broker} → Grants v c p (Some s) w → p ≢ c → (w.passage ≡ Some s) × (s.former ≢ c)
-granted_opens (grants.free it top) ne = (refl, ne)
-granted_opens (grants.from off it its top) ne = (refl, ne)
+pub grant_opens : {v : rules.Broker} {c p : ℕ} {s : SlipNumbers} {w : rules.Broker} → Grants v c p (Some s) w → p ≢ c → (w.passage ≡ Some s) × (s.former ≢ c)
+grant_opens (grants.free it top) ne = (refl, ne)
+grant_opens (grants.from off it its top) ne = (refl, ne)
 
 -- at every count of frames the offer of a client is one that a client can make
 offer_valid : (b : Pool) (c : ℕ) (x : Member) → member_of b.members c ≡ Some x → (k : ℕ) → 1 ≤ k → k ≤ 4_096 → Valid (offer_of (terms (present (pool-view b) c)) k)

@@ -7,7 +7,7 @@ use Rattle.laws.specs.Calls.{SetClock, Count, Step, IsClear, moved, ends, with_e
 use Rattle.laws.proofs.Puts.{put_off}
 use Rattle.price.specs.declared.price.Price.{Ghosts}
 use Rattle.pool.specs.Clocks.{DropsMany, DropsFrom, Drops, at_tick}
-use Rattle.pool.proofs.Clocks.{clocked_one, clocked_falls, clock_step}
+use Rattle.pool.proofs.Clocks.{many_one, many_falls, clock_step}
 use Rattle.broker.specs.declared.bids.Bids.{Bids}
 use Rattle.broker.specs.Bids.{bid_in, AreBids, Renews}
 use Rattle.broker.specs.View.{Broker, meaning, view, DropsSoFar, DropsAll, Stepped}
@@ -20,7 +20,7 @@ only_clients v b w cs e f = rw (f, e)
 
 -- what is left to drop grows less
 pub dropping_falls : {t : ℕ} {v w : rules.Broker} {c : ℕ} → DropsFrom t v c w → total (λ e. ends t (w.clients e)) < total (λ e. ends t (v.clients e))
-dropping_falls {t} {v} {w} {c} x = rw x.after (omega (arith, clocked_falls t v.clients c x.client x.numbered x.there x.over))
+dropping_falls {t} {v} {w} {c} x = rw x.after (omega (arith, many_falls t v.clients c x.client x.numbered x.there x.over))
 
 module _ {P : Type 0} {g : Ghosts P} where
   module _ {t : ℕ} {before : Broker P g} {n : ℕ} {b : Broker P g} (sofar : DropsSoFar t before n b) where
@@ -41,7 +41,7 @@ module _ {P : Type 0} {g : Ghosts P} where
           price = price ∙ sofar.price;
           rest = only_clients (view before) (view b) (view d) (put (view b).clients c (Some (with_estimate x.client None))) sofar.rest x.after;
           many = subst (λ (v : rules.Broker). DropsMany t (view before).clients (n + 1) v.clients) (sym x.after)
-              (clocked_one t (view b).clients c x.client x.numbered x.there x.over (view before).clients n sofar.many);
+              (many_one t (view b).clients c x.client x.numbered x.there x.over (view before).clients n sofar.many);
         }
 
   -- where one estimate is dropped and the bid of its client renewed, the bids stay right

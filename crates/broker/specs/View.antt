@@ -32,6 +32,16 @@ use Rattle.pool.specs.Clocks.{DropsMany}
 use Rattle.broker.specs.declared.slip.Undelivered.{Undelivered}
 pub use Rattle.broker.specs.declared.broker.Broker.{Broker}
 
+abbrev pub History : Meaning → List Event → rules.Broker → Type 0
+History m h b = Run m rules.new_broker h b
+
+-- Every history from a new broker under this price keeps the three guarantees.
+abbrev pub Guaranteed : Meaning → Type 0
+Guaranteed m = (h : List Event) (b : rules.Broker) → History m h b → Guarantees m h
+
+abbrev pub delivered : Result (Unit {0}) Undelivered → Result Answer Refusal
+delivered result = result_map_both (λ _. Done) (λ u. u.refusal) result
+
 module _ {P : Type 0} {g : Ghosts P} where
   abbrev pub meaning : Broker P g → Meaning
   meaning b = g.meaning b.price
@@ -39,41 +49,32 @@ module _ {P : Type 0} {g : Ghosts P} where
   abbrev pub view : Broker P g → rules.Broker
   view b = pool.view b.pool
 
-abbrev pub History : Meaning → List Event → rules.Broker → Type 0
-History m h b = Run m rules.new_broker h b
+  -- Every broker is made by `new` and changed by the calls alone, so some events always lead to it.
+  abbrev pub Led : List Event → Broker P g → Type 0
+  Led h b = History (meaning b) h (view b)
 
--- Every broker is made by `new` and changed by the calls alone, so some events always lead to it.
-abbrev pub Led : {P : Type 0} {g : Ghosts P} → List Event → Broker P g → Type 0
-Led h b = History (meaning b) h (view b)
+  abbrev pub Opens : ℕ → SlipNumbers → Broker P g → Type 0
+  Opens c s after = ((view after).passage ≡ Some s) × (s.former ≢ c)
 
--- Every history from a new broker under this price keeps the three guarantees.
-abbrev pub Guaranteed : Meaning → Type 0
-Guaranteed m = (h : List Event) (b : rules.Broker) → History m h b → Guarantees m h
+  -- A call may come in any history: whatever history led to the broker as it came, with this call and its answer leads
+  -- to the broker as it is left, and keeps the three guarantees.
+  pub record Stepped (before : Broker P g) (x : Call) (a : Result Answer Refusal) (after : Broker P g) : Type 0 where
+    pub step : Step (meaning before) (view before) x a (view after)
+    pub price : after.price ≡ before.price
+    pub history : (h : List Event) → Led h before → Led (event x a (view after) ∷ h) after
+    pub guarantees : (h : List Event) → Led h before → Guarantees (meaning after) (event x a (view after) ∷ h)
 
-abbrev pub Opens : {P : Type 0} {g : Ghosts P} → ℕ → SlipNumbers → Broker P g → Type 0
-Opens c s after = ((view after).passage ≡ Some s) × (s.former ≢ c)
+  abbrev pub IsPriceAt : Broker P g → ℕ → ℕ → Quote → Type 0
+  IsPriceAt b c count q = q ≡ price_at (meaning b) (view b) c count
 
-abbrev pub delivered : Result (Unit {0}) Undelivered → Result Answer Refusal
-delivered result = result_map_both (λ _. Done) (λ u. u.refusal) result
+  pub record DropsSoFar (t : ℕ) (before : Broker P g) (n : ℕ) (after : Broker P g) : Type 0 where
+    pub price : after.price ≡ before.price
+    pub rest : view after ≡ moved (view before) (view before).free (view after).clients
+    pub many : DropsMany t (view before).clients n (view after).clients
 
--- A call may come in any history: whatever history led to the broker as it came, with this call and its answer leads to
--- the broker as it is left, and keeps the three guarantees.
-pub record Stepped {P : Type 0} {g : Ghosts P} (before : Broker P g) (x : Call) (a : Result Answer Refusal) (after : Broker P g) : Type 0 where
-  pub step : Step (meaning before) (view before) x a (view after)
-  pub price : after.price ≡ before.price
-  pub history : (h : List Event) → Led h before → Led (event x a (view after) ∷ h) after
-  pub guarantees : (h : List Event) → Led h before → Guarantees (meaning after) (event x a (view after) ∷ h)
+  abbrev pub DropsAll : ℕ → Broker P g → ℕ → Broker P g → Type 0
+  DropsAll t before n after = DropsSoFar t before n after × ((c : ℕ) → ends t ((view after).clients c) ≡ 0)
 
-abbrev pub IsPriceAt : {P : Type 0} {g : Ghosts P} → Broker P g → ℕ → ℕ → Quote → Type 0
-IsPriceAt b c count q = q ≡ price_at (meaning b) (view b) c count
-
-pub record DropsSoFar {P : Type 0} {g : Ghosts P} (t : ℕ) (before : Broker P g) (n : ℕ) (after : Broker P g) : Type 0 where
-  pub price : after.price ≡ before.price
-  pub rest : view after ≡ moved (view before) (view before).free (view after).clients
-  pub many : DropsMany t (view before).clients n (view after).clients
-
-abbrev pub DropsAll : {P : Type 0} {g : Ghosts P} → ℕ → Broker P g → ℕ → Broker P g → Type 0
-DropsAll t before n after = DropsSoFar t before n after × ((c : ℕ) → ends t ((view after).clients c) ≡ 0)
-
-abbrev pub FindsSource : {P : Type 0} {g : Ghosts P} → Broker P g → ℕ → Result ℕ Refusal → Type 0
-FindsSource b c r = Replies (entries (meaning b) (view b) (Ask c)) (λ p. IsSource (meaning b) (view b) c p × (p ≢ c)) r
+  abbrev pub FindsSource : Broker P g → ℕ → Result ℕ Refusal → Type 0
+  FindsSource b c r =
+      Replies (entries (meaning b) (view b) (Ask c)) (λ p. IsSource (meaning b) (view b) c p × (p ≢ c)) r

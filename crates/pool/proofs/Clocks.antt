@@ -26,14 +26,14 @@ all_left t None h = refl
 
 module _ (t : ℕ) (ds : ℕ → Option Client) (c : ℕ) (x : Client) (i : Numbered c) (e : ds c ≡ Some x) (h : ended t x.estimate ≡ 1) where
   -- each estimate dropped leaves one less to drop
-  pub clocked_falls : total (λ d. ends t (put ds c (Some (with_estimate x None)) d)) + 1 ≡ total (λ d. ends t (ds d))
-  clocked_falls = omega (arith, put_sum ds c (Some (with_estimate x None)) (ends t) i, ap (ends t) e, h)
+  pub many_falls : total (λ d. ends t (put ds c (Some (with_estimate x None)) d)) + 1 ≡ total (λ d. ends t (ds d))
+  many_falls = omega (arith, put_sum ds c (Some (with_estimate x None)) (ends t) i, ap (ends t) e, h)
 
-  pub clocked_one : (cs : ℕ → Option Client) (n : ℕ) → DropsMany t cs n ds → DropsMany t cs (n + 1) (put ds c (Some (with_estimate x None)))
-  clocked_one cs n k =
+  pub many_one : (cs : ℕ → Option Client) (n : ℕ) → DropsMany t cs n ds → DropsMany t cs (n + 1) (put ds c (Some (with_estimate x None)))
+  many_one cs n k =
       record {
         last = put_each ds c (Some (with_estimate x None)) (λ d o. lasting t o ≡ lasting t (cs d)) (without ∙ k.last c) (λ d ne. k.last d);
-        count = omega (arith, k.count, clocked_falls);
+        count = omega (arith, k.count, many_falls);
       }
     where
       without : lasting t (Some (with_estimate x None)) ≡ lasting t (ds c)

@@ -1,17 +1,17 @@
 -- The first end of an estimate, and one estimate dropped.
-use Rattle.std.proofs.Common.{◌≡◌, ℕ, ◌<◌, List, Some, None, Option, refl, ap, ◌∙◌, arith}
+use Rattle.std.proofs.Common.{◌≡◌, ℕ, ◌<◌, Some, None, Option, refl, ap, ◌∙◌, arith}
 use Rattle.std.proofs.lemmas.Option.{same_Some}
 use Rattle.std.proofs.lemmas.Bool.Decides.{nat_tests}
 use Rattle.heap.specs.Heaps.{Least}
 use Rattle.heap.specs.Indexed.{keys_in}
 use Rattle.laws.specs.Broker.{Estimate}
-use Rattle.laws.specs.Calls.{ended, ends, moved, with_estimate}
+use Rattle.laws.specs.Calls.{ended, moved, with_estimate}
 use Rattle.laws.proofs.Kept.{none_some}
 use Rattle.pool.specs.declared.ends.End.{End}
 use Rattle.pool.specs.Ends.{leads, tick_of}
 use Rattle.pool.specs.Records.{Member, estimate_end, end_in, ended_in}
 use Rattle.pool.specs.Members.{Members, member_of, IsSetAt}
-use Rattle.pool.specs.View.{Pool, view, client_with, client_of}
+use Rattle.pool.specs.View.{Pool, view, client_with}
 use Rattle.pool.specs.Clocks.{IsFirstEnded, DropsFrom}
 use Rattle.pool.proofs.Views.{seen_with}
 use Rattle.pool.proofs.Tables.{client_is, set_clients}
@@ -34,7 +34,7 @@ later_key t s None h e = absurd (none_some refl e)
 -- where the first end is after t, no estimate ends by t
 pub none_ended : (m : Members) (t o : ℕ) (e : End) → Least leads (keys_in m.ends) o e → t < e.tick → (c : ℕ) → ended_in t (member_of m c) ≡ 0
 none_ended m t o e first late c =
-    later_in t (member_of m c) (λ s q. later_key t s (keys_in m.ends c) (λ k has. let led = first.leads c k has in grind (arith, nat_tests)) (m.noted c ∙ q))
+    later_in t (member_of m c) (λ s q. later_key t s (keys_in m.ends c) (λ k has. let led = first.leads c k has in grind (arith, nat_tests)) (m.ends_kept c ∙ q))
 
 -- an ended estimate is dropped from the table
 pub drop_one : (k : ℕ) (b : Pool) (t : Members) (c : ℕ) (x y : Member) → IsSetAt b.members c (Some y) t → IsFirstEnded b.members k (Some (c, x)) →
@@ -49,11 +49,3 @@ drop_one k b t c x y set (i, e, h) without =
       after = ap (moved (view b) (view b).free)
           (set_clients b t (stack_of b.ledger) c (Some y) (Some (with_estimate (client_with x (stack_of b.ledger c)) None)) set (ap Some without) (λ d pos ne. refl));
     }
-
-none_ends : (k : ℕ) (o : Option Member) (fs : List ℕ) → ended_in k o ≡ 0 → ends k (client_of o fs) ≡ 0
-none_ends k (Some x) fs h = h
-none_ends k None fs h = refl
-
--- where no record has an ended estimate, no client has
-pub nobody_ends : (k : ℕ) (b : Pool) → IsFirstEnded b.members k None → (c : ℕ) → ends k ((view b).clients c) ≡ 0
-nobody_ends k b none c = none_ends k (member_of b.members c) (stack_of b.ledger c) (none c)

@@ -75,7 +75,7 @@ module _ (t : Members) (c : ℕ) (n : Numbered c) where
   set_end v e es tick change =
       each_but c (λ d. tick_of (es d) ≡ end_in (by_number (set t.table (c - 1) v) d))
       (ap tick_of (change c ∙ update_here (keys_in t.ends) c e) ∙ (tick ∙ ap end_in (sym (set_here v))))
-      (λ d ne. ap tick_of (change d ∙ update_apart (keys_in t.ends) c e d ne) ∙ (t.noted d ∙ ap end_in (sym (set_off v d ne))))
+      (λ d ne. ap tick_of (change d ∙ update_apart (keys_in t.ends) c e d ne) ∙ (t.ends_kept d ∙ ap end_in (sym (set_off v d ne))))
 
   pub set_sum : (v : Option Member) → t.minimums - minimum_in (member_of t c) + minimum_in v ≡ total (λ d. minimum_in (by_number (set t.table (c - 1) v) d))
   set_sum v =

@@ -1,11 +1,11 @@
 -- The table of clients and their stacks, with one client changed.
 use Rattle.std.proofs.Common.{◌≡◌, ℕ, ◌≤◌, ◌≢◌, List, [], length, Some, None, Ok, Option, sym, refl, ap, ◌∙◌, inl, inr, arith}
 use mathlib.Core.Path.{fun_ext}
+use Rattle.std.proofs.lemmas.Bool.{cases_lt}
 use Rattle.rules.specs.Offers.{Meaning}
 use Rattle.rules.specs.declared.refusal.Refusal.TheVariants.{ClientOutOfRange, AlreadyAdmitted}
-use Rattle.laws.specs.ByNumber.{total, put}
+use Rattle.laws.specs.ByNumber.{total, Numbered, put}
 use Rattle.laws.specs.Broker as rules
-use Rattle.std.proofs.lemmas.Bool.{cases_lt}
 use Rattle.laws.specs.Broker.{holding, present}
 use Rattle.laws.specs.Division.{terms, minimum_of}
 use Rattle.laws.specs.Calls.{Admission, Admit, Done, Step, accepted, admitted, newcomer, IsClear}
@@ -19,10 +19,19 @@ use Rattle.ledger.proofs.Ledgers.{few_frames, holding_few, no_owner}
 use Rattle.pool.specs.Records.{Member, minimum_in}
 use Rattle.pool.specs.Members.{Members, member_of, IsSetAt, OnlyMembersHold}
 use Rattle.pool.specs.View.{Pool, view, client_with, client_of}
+use Rattle.pool.proofs.Records.{member_numbered}
 use Rattle.pool.proofs.Views.{clients_of, seen_with, from_parts, same_client}
 
 pub client_is : (b : Pool) (c : ℕ) (x : Member) → member_of b.members c ≡ Some x → (view b).clients c ≡ Some (client_with x (stack_of b.ledger c))
 client_is b c x e = ap (λ (o : Option Member). client_of o (stack_of b.ledger c)) e
+
+-- a client that is there is a member, and has a client number
+pub member_there : (o : Option Member) (fs : List ℕ) → (client_of o fs ≡ None → ⊥) → (x : Member) × (o ≡ Some x)
+member_there (Some x) fs h = (x, refl)
+member_there None fs h = absurd (h refl)
+
+pub there_numbered : (b : Pool) (c : ℕ) → ((view b).clients c ≡ None → ⊥) → Numbered c
+there_numbered b c there = let x = member_there (member_of b.members c) (stack_of b.ledger c) there in member_numbered b.members c x.0 x.1
 
 -- where only the record of one client and its stack change, only that client changes; the free stack is no client's
 pub changed_clients : (b : Pool) (t : Members) (s : ℕ → List ℕ) (c : ℕ) (y : Option rules.Client) → clients_of t s c ≡ y →

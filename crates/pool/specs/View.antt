@@ -4,6 +4,7 @@
 -- client_with, client_of   a client as the rules speak of it, of its record and its stack; none where there is no record
 -- view            the pool as the rules speak of it
 -- IsAdmittedAs    a client is admitted, and this is its record
+-- Judges          a call is refused by the first refusal that it meets, those by price aside, or something holds of the result
 -- Steps           a call on a pool is a step of the rules, under every price
 -- IsSource        where the frame of an ask may come from: 0, the free stack, or a client that has to give one up
 -- frames_at       the frames of a client, and for 0 the free ones
@@ -11,11 +12,12 @@
 -- IsNextClient    the lowest number above another that an admitted client has, or none where no client has one
 use Rattle.std.specs.Prelude.{◌≡◌, ℕ, zero, suc, ◌<◌, ◌≢◌, ◌⊎◌, List, [], ◌∷◌, Some, None, Option, Result}
 use Rattle.rules.specs.Offers.{Meaning}
+use Rattle.rules.specs.Refusals.{Replies}
 use Rattle.rules.specs.declared.refusal.Refusal.{Refusal}
 use Rattle.laws.specs.ByNumber.{put}
 use Rattle.laws.specs.Broker as rules
 use Rattle.laws.specs.Broker.{SlipNumbers, MayTake}
-use Rattle.laws.specs.Calls.{Call, Answer, Step, Absent, with_stack, slip, granted}
+use Rattle.laws.specs.Calls.{Call, Answer, Step, Absent, unpriced, with_stack, slip, granted}
 use Rattle.ledger.specs.Ledgers.{stack_of}
 use Rattle.pool.specs.Records.{Member}
 use Rattle.pool.specs.Members.{member_of}
@@ -50,6 +52,9 @@ view b =
 
 abbrev pub IsAdmittedAs : Pool → ℕ → Member → Type 0
 IsAdmittedAs b c x = member_of b.members c ≡ Some x
+
+abbrev pub Judges : {A : Type 0} → Pool → Call → (A → Type 0) → Result A Refusal → Type 0
+Judges b x P r = Replies (unpriced (view b) x) P r
 
 abbrev pub Steps : Pool → Call → Result Answer Refusal → Pool → Type 0
 Steps b x a d = (m : Meaning) → Step m (view b) x a (view d)

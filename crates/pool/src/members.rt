@@ -19,7 +19,7 @@ pub(crate) struct Members {
     ends: IndexedHeap<End, 257>,
     ghost places: { length table ≡ 256 },
     ghost summed: { minimums ≡ total (λ c. minimum_in (by_number table c)) },
-    ghost noted: { KeepsEnds table (end_of ends) },
+    ghost ends_kept: { KeepsEnds table (end_of ends) },
 }
 
 /// The minimum in a record; where there is none, 0.

@@ -4,7 +4,7 @@ ghost use Rattle.rules.specs.Refusals.{Replies};
 ghost use Rattle.laws.specs.Broker.{new_broker, holding, share_of};
 ghost use Rattle.laws.specs.Calls.{Start, Admit, Ask, Deliver, HandBack, Leave, SetEstimate, SetClock};
 ghost use Rattle.laws.specs.Calls.{Done, Frame, Count, answered, Absent, slip as slip-of};
-ghost use Rattle.laws.specs.Calls.{client_inputs, passage_entry, caller_entries, unpriced};
+ghost use Rattle.laws.specs.Calls.{client_inputs, passage_entry, caller_entries};
 ghost use Rattle.laws.specs.Questions.{client_entries};
 ghost use Rattle.pool.specs.Members.{OnlyMembersHold};
 ghost use Rattle.pool.specs.Clocks.{Drops, at_tick};
@@ -38,7 +38,7 @@ fn check_number(client: u32) -> Result<(), Refusal>
 }
 
 impl Pool {
-    ghost use Rattle.pool.specs.View.{view, IsAdmittedAs, Steps, Grants, IsNextClient};
+    ghost use Rattle.pool.specs.View.{view, IsAdmittedAs, Judges, Steps, Grants, IsNextClient};
 
     /// A pool without frames and clients, at tick 0.
     pub fn new() -> Pool
@@ -81,7 +81,7 @@ impl Pool {
 
     /// What an admission is refused for.
     fn admissible(&self, asked: Admission) -> Result<(), Refusal>
-        ensures { Replies (unpriced (view self.now) (Admit asked)) (λ _. Unit {0}) result }
+        ensures { Judges self.now (Admit asked) (λ _. Unit {0}) result }
     {
         let Admission {
             client,
@@ -145,7 +145,7 @@ impl Pool {
     /// The record of a client that may ask. A client number outside 1 to 256 is refused, then any client while a
     /// passage is open, one that is not admitted, and one that holds its maximum.
     pub fn asker(&self, client: u32) -> Result<Member, Refusal>
-        ensures { Replies (unpriced (view self.now) (Ask client)) (IsAdmittedAs self.now client) result }
+        ensures { Judges self.now (Ask client) (IsAdmittedAs self.now client) result }
     {
         let member = self.caller(client)?;
         if self.holding(client) >= member.maximum {
@@ -211,7 +211,7 @@ impl Pool {
 
     /// The record of a client whose estimate may be set.
     fn estimable(&self, client: u32, estimate: Estimate) -> Result<Member, Refusal>
-        ensures { Replies (unpriced (view self.now) (SetEstimate client estimate)) (IsAdmittedAs self.now client) result }
+        ensures { Judges self.now (SetEstimate client estimate) (IsAdmittedAs self.now client) result }
     {
         let member = self.caller(client)?;
         if estimate.active > self.ledger.frames() as u32 {
@@ -237,7 +237,7 @@ impl Pool {
 
     /// Whether the clock may be set to a tick. Any tick is refused while a passage is open, and then one before the clock.
     pub fn clockable(&self, tick: u32) -> Result<(), Refusal>
-        ensures { Replies (unpriced (view self.now) (SetClock tick)) (λ _. Unit {0}) result }
+        ensures { Judges self.now (SetClock tick) (λ _. Unit {0}) result }
     {
         self.no_passage()?;
         if tick < self.tick {

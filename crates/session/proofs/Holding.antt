@@ -4,20 +4,15 @@ use Rattle.rules.specs.Offers.{Meaning}
 use Rattle.rules.specs.declared.offer.Quote.{Quote}
 use Rattle.rules.specs.declared.refusal.Refusal.{Refusal}
 use Rattle.rules.specs.Refusals.{Clear, Replies}
-use Rattle.laws.specs.ByNumber.{Numbered}
 use Rattle.laws.specs.Broker as rules
 use Rattle.laws.specs.Broker.{holding}
 use Rattle.laws.specs.Calls.{Absent}
 use Rattle.laws.specs.Questions.{price_entries, price_at}
 use Rattle.laws.proofs.Kept.{held_of as length_of}
 use Rattle.laws.proofs.One.{first_or_clear}
-use Rattle.ledger.specs.Ledgers.{stack_of}
-use Rattle.pool.specs.Members.{member_of}
 use Rattle.pool.specs.declared.pool.Pool.{Pool}
 use Rattle.pool.specs.View.{view}
-use Rattle.pool.proofs.Tables.{few_held}
-use Rattle.pool.proofs.Grants.{noted}
-use Rattle.pool.proofs.Records.{member_numbered}
+use Rattle.pool.proofs.Tables.{few_held, there_numbered}
 use Rattle.session.specs.Input.{held_by}
 
 module _ (b : Pool) (c : ℕ) where
@@ -25,13 +20,8 @@ module _ (b : Pool) (c : ℕ) where
   pub holder_there : 0 < holding (view b) c → Absent (view b) c → ⊥
   holder_there h none = omega (arith, ap length_of none)
 
-  module _ (there : Absent (view b) c → ⊥) where
-    -- who is there has a client number
-    pub there_numbered : Numbered c
-    there_numbered = let x = noted (member_of b.members c) (stack_of b.ledger c) there in member_numbered b.members c x.0 x.1
-
-    pub price_told : (k : ℕ) → 1 ≤ k → k ≤ 4_096 → Clear (price_entries (view b) c k)
-    price_told k low high = (omega (arith, there_numbered), (omega arith, (there, tt)))
+  pub price_told : (Absent (view b) c → ⊥) → (k : ℕ) → 1 ≤ k → k ≤ 4_096 → Clear (price_entries (view b) c k)
+  price_told there k low high = (omega (arith, there_numbered b c there), (omega arith, (there, tt)))
 
 -- who has no price holds nothing
 pub unpriced : (m : Meaning) (b : Pool) (c n : ℕ) → n ≡ holding (view b) c → (r : Result Quote Refusal) →

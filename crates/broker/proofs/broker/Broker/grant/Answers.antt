@@ -1,7 +1,7 @@
 use Rattle.std.proofs.Common.{refl}
 use Rattle.std.proofs.lemmas.Result.{err_from_is_err_and}
 use Rattle.laws.specs.Calls.{refused}
-use Rattle.broker.proofs.Asks.{granted_some, granted_step, granted_opens}
+use Rattle.broker.proofs.Asks.{granted_some, grant_step, grant_opens}
 use Rattle.broker.proofs.Others.{asked_bids}
 use Rattle.broker.proofs.Steps.{stepped}
 use Rattle.broker.proofs.broker.Broker.grant.Goals as goal
@@ -16,11 +16,11 @@ unwrap-slip-requires g c = granted_some _ refl c.grant.ensures c.in_ok-from.ensu
 
 pub invariant_of-self : goal.invariant_of-self
 invariant_of-self g c =
-    let step = granted_step refl (rw c.unwrap-slip.ensures at c.grant.ensures) c.in_ok-from.ensures in
+    let step = grant_step refl (rw c.unwrap-slip.ensures at c.grant.ensures) c.in_ok-from.ensures in
     record { kept = asked_bids c.args.self.now step c.renew.ensures c.renew-2.ensures }
 
 pub returns-clause-step : goal.returns-clause-step
-returns-clause-step g c = stepped (g.met.P.Price.lawful _) (granted_step refl (rw c.unwrap-slip.ensures at c.grant.ensures) c.in_ok-from.ensures) refl
+returns-clause-step g c = stepped (g.met.P.Price.lawful _) (grant_step refl (rw c.unwrap-slip.ensures at c.grant.ensures) c.in_ok-from.ensures) refl
 
 pub returns-clause-opens : goal.returns-clause-opens
-returns-clause-opens g c = granted_opens (rw c.unwrap-slip.ensures at c.grant.ensures) c.in_ok-from.ensures.1.1
+returns-clause-opens g c = grant_opens (rw c.unwrap-slip.ensures at c.grant.ensures) c.in_ok-from.ensures.1.1

@@ -9,7 +9,7 @@ invariant_of-result c =
     record {
       places = refl;
       summed = nothing_summed;
-      noted = λ d. ap tick_of (c.new.ensures d) ∙ sym (ap end_in (nobody 256 d));
+      ends_kept = λ d. ap tick_of (c.new.ensures d) ∙ sym (ap end_in (nobody 256 d));
     }
 
 pub returns : goal.returns

@@ -14,8 +14,8 @@ pub invariant_of-self-clause-summed : goal.invariant_of-self-clause-summed
 invariant_of-self-clause-summed c =
     omega (arith, ap minimum_in c.get-before.ensures, set_sum c.args.self.now c.args.client c.requires c.args.member)
 
-pub invariant_of-self-clause-noted : goal.invariant_of-self-clause-noted
-invariant_of-self-clause-noted c =
+pub invariant_of-self-clause-ends_kept : goal.invariant_of-self-clause-ends_kept
+invariant_of-self-clause-ends_kept c =
     set_end c.args.self.now c.args.client c.requires c.args.member c.end.result (keys_in c.set_end.new.ends) c.end.ensures c.set_end.ensures
 
 pub returns : goal.returns
