@@ -1,5 +1,5 @@
 -- A new broker, and one that is given its frames.
-use Rattle.std.proofs.Common.{◌≡◌, ℕ, List, [], None, Ok, Option, sym, refl, ap, ◌∙◌, arith}
+use Rattle.std.proofs.Common.{◌≡◌, ℕ, [], None, Ok, Option, sym, refl, ap, ◌∙◌, arith}
 use mathlib.Core.Path.{fun_ext}
 use Rattle.std.proofs.lemmas.List.{nil_from_length}
 use Rattle.rules.specs.Offers.{Meaning}

@@ -1,10 +1,9 @@
 -- What clients hold, and who has a price.
-use Rattle.std.proofs.Common.{◌≡◌, ℕ, ◌<◌, ◌≤◌, length, Some, None, Ok, Err, Option, Result, refl, ap, arith}
+use Rattle.std.proofs.Common.{◌≡◌, ℕ, ◌<◌, ◌≤◌, None, Ok, Err, Result, refl, ap, arith}
 use Rattle.rules.specs.Offers.{Meaning}
 use Rattle.rules.specs.declared.offer.Quote.{Quote}
 use Rattle.rules.specs.declared.refusal.Refusal.{Refusal}
 use Rattle.rules.specs.Refusals.{Clear, Replies}
-use Rattle.laws.specs.Broker as rules
 use Rattle.laws.specs.Broker.{holding}
 use Rattle.laws.specs.Calls.{Absent}
 use Rattle.laws.specs.Questions.{price_entries, price_at}
