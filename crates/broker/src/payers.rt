@@ -34,7 +34,7 @@ impl Payers {
     {
         let quote = Quote {
             class: 0,
-            top: 0,
+            top: 1,
             bottom: 1,
         };
         let unused = Bid {
