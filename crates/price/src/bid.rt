@@ -1,7 +1,7 @@
 //! Bids that the rank orders.
 ghost use Rattle.std.specs.Prelude.{◌≡◌};
 ghost use Rattle.std.specs.Ordering.{is_gt};
-ghost use Rattle.rules.specs.Laws.{IsFraction};
+ghost use Rattle.rules.specs.Offers.{InRange};
 ghost use Rattle.rules.specs.Rank.{bid, above};
 
 use crate::offer::ValidOffer;
@@ -10,11 +10,11 @@ use heap::Order;
 use rules::Bid;
 use std::cmp::Ordering;
 
-/// A bid under a lawful price: the bottom of its quote is at least 1. Among such bids the rank is an order.
+/// A bid whose quote is in its ranges, as under every price. Among such bids the rank is an order.
 #[derive(Clone, Copy, Drop)]
 pub struct ValidBid {
     pub bid: Bid,
-    ghost fraction: { IsFraction bid.quote },
+    ghost in_range: { InRange bid.quote },
 }
 
 /// How a bid ranks beside another: five tests, of which the first that separates the two decides. Fractions are compared
@@ -67,7 +67,7 @@ impl Order for ValidBid {
 
     ghost total = { λ x y. one_no_higher x.bid y.bid };
 
-    ghost chain = { λ x y z. no_higher_on x.bid y.bid z.bid x.fraction y.fraction z.fraction };
+    ghost chain = { λ x y z. no_higher_on x.bid y.bid z.bid x.in_range y.in_range z.in_range };
 
     fn no_later(&self, other: &ValidBid) -> bool {
         !self.ranks_above(other)

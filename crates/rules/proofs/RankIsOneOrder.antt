@@ -1,10 +1,10 @@
 -- The rank is one strict order of bids whose quotes are fractions, as those under lawful prices are.
-use Rattle.std.proofs.Common.{◌≡◌, ℕ, ◌*◌, ◌<◌, ◌≤◌, true, false, not, ◌⊎◌, mul-le-mul_right, nat_lt, arith, ltb-false, le-ltb}
+use Rattle.std.proofs.Common.{◌≡◌, ℕ, ◌*◌, ◌<◌, ◌≤◌, true, false, not, ◌⊎◌, mul-le-mul_right, arith, ltb-false, le-ltb}
 use native.Mathlib.Nat.{le_of_mul-le-mul_left}
 use Rattle.std.proofs.lemmas.Bool.{not-true, not-false, not_from_false}
 use Rattle.std.proofs.lemmas.Bool.Decides.{nat_tests}
-use Rattle.rules.specs.Offers.{Offer, Meaning, Valid, at_count, Lawful}
-use Rattle.rules.specs.Rank.{Bid, bid, ranks, above, Above, by_minimum, by_fraction, tests}
+use Rattle.rules.specs.Offers.{Offer, Meaning, Valid, at_count, InRange, Lawful}
+use Rattle.rules.specs.Rank.{Bid, bid, ranks, above, Above, by_minimum, by_class, by_fraction, by_client, by_count, tests}
 use Rattle.rules.specs.Laws.{IsFraction, Apart, RankIsOneOrder}
 use Rattle.rules.proofs.Tests.{Weak, Each, ranks_asym, ranks_past}
 
@@ -20,12 +20,17 @@ weak_minimum : Weak Fair by_minimum
 weak_minimum =
     record { asym = λ a b h. grind (arith, nat_tests); past = λ a b c pa pb pc h k. grind (arith, nat_tests) }
 
--- a test by a number, of which the smaller one or the larger one wins
-weak_number : (f : Bid → ℕ) → Weak Fair (λ a b. nat_lt (f a) (f b)) × Weak Fair (λ a b. nat_lt (f b) (f a))
-weak_number f = (
-  record { asym = λ a b h. grind (arith, nat_tests); past = λ a b c pa pb pc h k. grind (arith, nat_tests) },
-  record { asym = λ a b h. grind (arith, nat_tests); past = λ a b c pa pb pc h k. grind (arith, nat_tests) },
-)
+weak_class : Weak Fair by_class
+weak_class =
+    record { asym = λ a b h. grind (arith, nat_tests); past = λ a b c pa pb pc h k. grind (arith, nat_tests) }
+
+weak_client : Weak Fair by_client
+weak_client =
+    record { asym = λ a b h. grind (arith, nat_tests); past = λ a b c pa pb pc h k. grind (arith, nat_tests) }
+
+weak_count : Weak Fair by_count
+weak_count =
+    record { asym = λ a b h. grind (arith, nat_tests); past = λ a b c pa pb pc h k. grind (arith, nat_tests) }
 
 weak_fraction : Weak Fair by_fraction
 weak_fraction =
@@ -35,11 +40,7 @@ weak_fraction =
     }
 
 weak_all : Each Fair tests
-weak_all =
-    let class = (weak_number (λ b. b.quote.class)).1 in
-    let client = (weak_number (λ b. b.client)).0 in
-    let count = (weak_number (λ b. b.count)).0 in
-    (weak_minimum, (class, (weak_fraction, (client, (count, tt)))))
+weak_all = (weak_minimum, (weak_class, (weak_fraction, (weak_client, (weak_count, tt)))))
 
 -- who ranks above another does not rank below it
 pub asym : (a b : Bid) → Above a b → above b a ≡ false
@@ -55,10 +56,10 @@ past a b c pa pb pc h k = ranks_past Fair tests weak_all a b c pa pb pc h k
 pub one_no_higher : (a b : Bid) → not (above a b) ≡ false → not (above b a) ≡ true
 one_no_higher a b h = not_from_false (above b a) (asym a b (not-false (above a b) h))
 
-pub no_higher_on : (a b c : Bid) → Fair a → Fair b → Fair c → not (above a b) ≡ true → not (above b c) ≡ true →
-    not (above a c) ≡ true
-no_higher_on a b c pa pb pc h k =
-    not_from_false (above a c) (past a b c pa pb pc (not-true (above a b) h) (not-true (above b c) k))
+pub no_higher_on : (a b c : Bid) → InRange a.quote → InRange b.quote → InRange c.quote →
+    not (above a b) ≡ true → not (above b c) ≡ true → not (above a c) ≡ true
+no_higher_on a b c p q r h k =
+    not_from_false (above a c) (past a b c p.some_bottom q.some_bottom r.some_bottom (not-true (above a b) h) (not-true (above b c) k))
 
 pub decided : (a b : Bid) → Apart a b → Above a b ⊎ Above b a
 unfolding above ranks
