@@ -1,6 +1,5 @@
 //! Bids that the rank orders.
 ghost use Rattle.std.specs.Prelude.{◌≡◌};
-ghost use Rattle.std.specs.Ordering.{is_gt};
 ghost use Rattle.rules.specs.Offers.{InRange};
 ghost use Rattle.rules.specs.Rank.{bid, above};
 
@@ -8,7 +7,6 @@ use crate::offer::ValidOffer;
 use crate::price::Price;
 use heap::Order;
 use rules::Bid;
-use std::cmp::Ordering;
 
 /// A bid whose quote is in its ranges, as under every price. Among such bids the rank is an order.
 #[derive(Clone, Copy, Drop)]
@@ -17,22 +15,28 @@ pub struct ValidBid {
     ghost in_range: { InRange bid.quote },
 }
 
-/// How a bid ranks beside another: five tests, of which the first that separates the two decides. Fractions are compared
+/// Whether a bid ranks above another: five tests, of which the first that separates the two decides. Fractions are compared
 /// by their cross products, which fit 64 bits.
 #[tactic(auto, unfolding(rules::specs::Rank::above, rules::specs::Rank::ranks))]
-fn rank(a: &Bid, b: &Bid) -> Ordering
-    ensures { is_gt result ≡ above a.now b.now }
+fn ranks_above(a: &Bid, b: &Bid) -> bool
+    ensures { result ≡ above a.now b.now }
 {
-    (a.count <= a.minimum)
-        .cmp(&(b.count <= b.minimum))
-        .then_with(|| a.quote.class.cmp(&b.quote.class))
-        .then_with(|| {
-            let first = a.quote.top as u64 * b.quote.bottom as u64;
-            let second = b.quote.top as u64 * a.quote.bottom as u64;
-            first.cmp(&second)
-        })
-        .then_with(|| b.client.cmp(&a.client))
-        .then_with(|| b.count.cmp(&a.count))
+    let within = a.count <= a.minimum;
+    if within != (b.count <= b.minimum) {
+        return within;
+    }
+    if a.quote.class != b.quote.class {
+        return a.quote.class > b.quote.class;
+    }
+    let first = a.quote.top as u64 * b.quote.bottom as u64;
+    let second = b.quote.top as u64 * a.quote.bottom as u64;
+    if first != second {
+        return first > second;
+    }
+    if a.client != b.client {
+        return a.client < b.client;
+    }
+    a.count < b.count
 }
 
 impl ValidBid {
@@ -54,7 +58,7 @@ impl ValidBid {
     pub fn ranks_above(&self, other: &ValidBid) -> bool
         ensures { result ≡ above self.now.bid other.now.bid }
     {
-        rank(&self.bid, &other.bid).is_gt()
+        ranks_above(&self.bid, &other.bid)
     }
 }
 

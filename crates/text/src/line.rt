@@ -40,6 +40,7 @@ pub trait Line {
     }
 
     /// Prints the line and a newline.
+    #[inline(always)]
     #[tactic(auto, using(crate::proofs::Kept::joined))]
     final fn print<W: Write>(&self, out: &mut W) -> io::Result<()>
         ensures { OnOk result (Appends (W.contents out.old) (W.contents out.new) (spelling self.now ++ 10 ∷ [])) }

@@ -72,6 +72,7 @@ impl Text {
     }
 
     /// Prints the text and a newline.
+    #[inline(always)]
     pub fn print<W: Write>(&self, out: &mut W) -> io::Result<()>
         ensures { OnOk result (Appends (W.contents out.old) (W.contents out.new) (spelt self.now ++ 10 ∷ [])) }
     {
