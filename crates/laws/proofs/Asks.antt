@@ -1,4 +1,4 @@
--- In a stretch that accepts nothing but asks and deliveries, the accepted asks are bounded.
+-- While only asks and deliveries are accepted, there is a bound on how many asks can be.
 use Rattle.std.proofs.Common.{◌≡◌, ℕ, ◌+◌, ◌<◌, ◌≤◌, true, false, ◌⊎◌, List, ◌∷◌, ◌++◌, length, Some, sym, refl, ap, ◌∙◌, subst, arith, Result}
 use Rattle.rules.specs.declared.refusal.Refusal.{Refusal}
 use Rattle.rules.specs.Offers.{Meaning, Lawful}

@@ -18,7 +18,8 @@
 -- holder_bid       a client's bid at its holding
 -- asker_bid        a client's bid at one frame more than it holds
 -- Beyond           the client holds more than its minimum
--- LowestPayer      its bid at its holding ranks lowest among all clients that hold more than their minimums
+-- LowestPayer      a client that holds more than its minimum, and whose bid for what it holds ranks above that of no
+--                  other such client
 -- MayTake          a client may take a frame of the lowest payer
 -- IsOutbid         no frame is free, and the client may take none
 use Rattle.std.specs.Prelude.{◌≡◌, ℕ, ◌+◌, ◌*◌, ◌/◌, ◌<◌, ◌≤◌, false, ◌⊎◌, List, [], length, Some, None, Option}

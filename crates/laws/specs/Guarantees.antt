@@ -25,16 +25,17 @@ TellsShare m = (o : Offer) → Valid o → m o ≡ share o
 
 -- A history has its latest event first, so what is later stands before what is earlier.
 pub record Guarantees (m : Meaning) (h : List Event) : Type 0 where
-  -- In every stretch that accepts nothing but asks and deliveries, the accepted asks are no more than the clients might
-  -- still get at its start, each up to its maximum.
+  -- While only asks and deliveries are accepted, no more asks are accepted than the clients had room for at the start
+  -- of the stretch, each up to its maximum.
   pub asks_are_bounded : (later stretch earlier : List Event) → h ≡ later ++ (stretch ++ earlier) →
       AcceptsOnlyAsks stretch → grants stretch ≤ room (reached new_broker earlier)
-  -- Whenever the broker is at rest, the holdings are the settled division, and no other counts are.
+  -- At rest the clients hold a settled division of the frames, and there is only one.
   pub one_resting_place : (later earlier : List Event) → h ≡ later ++ earlier →
       AtRest new_broker earlier → RestsSettled m (reached new_broker earlier)
-  -- Under the share price: from an ask of a client that is refused as at its maximum or as outbid, for as long as every
-  -- minimum is within its client's proportional share and the client neither hands a frame back nor leaves, it holds no
-  -- less than the smallest proportional share that it has had since, rounded down, or than its maximum if that is less.
+  -- Under the share price, once an ask of a client was refused, as at its maximum or as outbid, its holding does not
+  -- fall below the smallest of its proportional shares since then, rounded down; or below its maximum, where that is
+  -- smaller still. This lasts until it hands a frame back or leaves, and while each minimum is within its client's
+  -- proportional share.
   pub no_client_is_shorted : TellsShare m → (c : ℕ) (later since earlier : List Event) (e : Event) →
       h ≡ later ++ (since ++ (e ∷ earlier)) →
       TurnsAway c e → Each (Keeps c) since → Throughout MinimumsWithin e.after since →

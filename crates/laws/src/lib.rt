@@ -16,7 +16,7 @@ pub fn every_history_keeps_the_guarantees()
     ensures { HistoriesKeepGuarantees }
 {}
 
-/// Every frame is at all times in exactly one stack, once.
+/// Over every history each frame of the pool lies in one stack and in no other, and no other number lies in any.
 pub fn every_frame_lies_in_one_stack_once()
     ensures { FramesLieOnce }
 {}

@@ -47,6 +47,6 @@ pub record Lawful (m : Meaning) : Type 0 where
   -- offers that differ only in their counts have the same class
   pub one_class : (o : Offer) (j k : ℕ) → Valid (at_count o j) → Valid (at_count o k) →
       (m (at_count o j)).class ≡ (m (at_count o k)).class
-  -- of such offers the one with the larger count never has the larger fraction
+  -- and at a larger count the fraction is no larger
   pub falling : (o : Offer) (j k : ℕ) → Valid (at_count o j) → Valid (at_count o k) → j ≤ k →
       AtLeast (m (at_count o j)) (m (at_count o k))

@@ -9,9 +9,10 @@ pub enum FaultKind {
     Letter = 1,
     /// A space is due, and something else is there, or the end.
     Space = 2,
-    /// A number is due, and no digit is there, or the number has a leading zero or is too large.
+    /// Where a number has to begin there is no digit, or one that begins a number with a leading zero or of more than
+    /// 32 bits.
     Number = 3,
-    /// The line goes on after its last number.
+    /// More stands on the line than its kind of event has numbers.
     Excess = 4,
 }
 
@@ -34,7 +35,7 @@ pub struct Fault {
 /// Why a line or a call was refused.
 #[derive(Clone, Copy, PartialEq, Eq, Debug, Drop)]
 pub enum Refusal {
-    /// The frames of a start are outside 1 to 4,096, or its unit number is outside 1 to 999.
+    /// A start with a unit number that is not 1 to 999, or not 1 to 4,096 frames.
     PoolOutOfRange,
     /// A client number is outside 1 to 256.
     ClientOutOfRange,
@@ -46,9 +47,9 @@ pub enum Refusal {
     MaximumOutOfRange,
     /// The tax rate is above 99.
     RateOutOfRange,
-    /// The frame count of a question or of an offer is 0 or above 4,096, or a tariff sheet is longer than 4,096.
+    /// A frame count is not 1 to 4,096, or a tariff sheet has more than 4,096 places.
     CountOutOfRange,
-    /// A buffer is too short for what is to be written.
+    /// The buffer has fewer places than what is to be written.
     BufferTooShort,
     /// An event line is malformed, with the reader's fault.
     Malformed(Fault),
@@ -68,7 +69,7 @@ pub enum Refusal {
     AtMaximum,
     /// An ask that is outbid.
     Outbid,
-    /// A hand-back by a client that holds no frame.
+    /// A hand-back where the client has nothing to hand back.
     HoldsNoFrame,
     /// An active count above the pool's frames.
     ActiveAboveFrames,

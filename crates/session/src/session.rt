@@ -16,7 +16,7 @@ use std::io;
 use std::io::Write;
 use text::Line;
 
-/// A broker on which event lines are performed. Each slip is delivered as soon as it is granted.
+/// A broker on which event lines are performed. It delivers the slip of a granted ask itself, before the next line.
 #[derive(Drop)]
 pub struct Session<P: Price> {
     broker: Broker<P>,
