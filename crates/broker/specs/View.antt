@@ -49,7 +49,7 @@ module _ {P : Type 0} {g : Ghosts P} where
   abbrev pub view : Broker P g → rules.Broker
   view b = pool.view b.pool
 
-  -- Every broker is made by `new` and changed by the calls alone, so some events always lead to it.
+  -- A broker is made new, and then nothing but its calls changes it, so some events always lead to it.
   abbrev pub Led : List Event → Broker P g → Type 0
   Led h b = History (meaning b) h (view b)
 

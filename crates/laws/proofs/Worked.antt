@@ -75,7 +75,7 @@ worked_examples =
       tells_share = λ o v. refl;
       taxed_differs = λ same. let e : ◌≡◌ {A = ℕ} 100 4 = ap (λ q. q.bottom) (same (hundred 0 None 4) at_four) in omega arith;
       keeps = λ x r b a. absurd a;
-      keeps_too = λ b. (λ a. (λ e. cc, λ e. cc), λ a. (λ e. cc, λ e. cc));
+      keeps_too = λ x a b p q _. (p, q);
       hands_back = λ b k. (k tt).0 refl;
       leaves = λ b k. (k tt).1 refl;
       stretch = λ c s. (tt, tt);
@@ -85,6 +85,7 @@ worked_examples =
       no_leave = λ c a. a;
       no_estimates = λ c e a. a;
       no_clock = λ t a. a;
+      asks = λ s b. (λ _. tt, (λ _. tt, tt));
       in_stretch = λ b. (λ a. absurd a, (λ a. absurd a, tt));
       no_stretch = λ b a. a.0 tt;
       at_maximum = λ b. inl (refl, inl refl);

@@ -10,7 +10,7 @@
 -- accepts, refuses  a call that was accepted and so answered, one that was refused, and the broker after it
 -- at_tick           a new broker, its clock set
 -- WorkedExamples    the examples, all together
-use Rattle.std.specs.Prelude.{◌≡◌, ℕ, ◌+◌, ◌-◌, ◌^◌, ◌≤◌, cond, [], ◌∷◌, Some, None, Ok, Err, Option, ◌==◌}
+use Rattle.std.specs.Prelude.{◌≡◌, ℕ, ◌+◌, ◌-◌, ◌^◌, ◌≤◌, cond, [], ◌∷◌, Some, None, Ok, Err, Option, ◌==◌, ◌≢◌}
 use Rattle.std.specs.List.{range_with_len}
 use Rattle.rules.specs.declared.offer.Offer.{Offer}
 use Rattle.rules.specs.declared.offer.Quote.{Quote}
@@ -20,7 +20,7 @@ use Rattle.rules.specs.Prices.{share, taxed, classed}
 use Rattle.laws.specs.ByNumber.{total}
 use Rattle.laws.specs.Division.{Terms, Clients, Settled}
 use Rattle.laws.specs.Broker.{Client, Broker, Estimate, SlipNumbers, new_broker, share_of, MinimumsWithin}
-use Rattle.laws.specs.Calls.{Admission, Call, Start, Admit, Ask, Deliver, HandBack, Leave, SetEstimate, SetClock, Answer, Frame, Count}
+use Rattle.laws.specs.Calls.{Admission, Call, Start, Admit, Ask, Deliver, HandBack, Leave, SetEstimate, SetClock, Answer, Done, Granted, Frame, Count}
 use Rattle.laws.specs.Histories.{Event, event, Throughout, AskOrDelivery, AcceptsOnlyAsks, TurnedAway, AtRest, Keeps}
 use Rattle.laws.specs.Guarantees.{TellsShare}
 use Rattle.laws.specs.Ranges.{TickFits}
@@ -91,7 +91,7 @@ pub record WorkedExamples : Type 0 where
   pub taxed_differs : TellsShare (taxed 75) → ⊥
   -- client 1 keeps its frames by any call that is refused, and by any other call than its own hand-back and leave
   pub keeps : (x : Call) (r : Refusal) (b : Broker) → Keeps 1 (refuses x r b)
-  pub keeps_too : (b : Broker) → Keeps 1 (accepts (HandBack 2) (Frame 5) b) × Keeps 1 (accepts (Leave 2) (Count 2) b)
+  pub keeps_too : (x : Call) (a : Answer) (b : Broker) → x ≢ HandBack 1 → x ≢ Leave 1 → Keeps 1 (accepts x a b)
   -- and not by these
   pub hands_back : (b : Broker) → Keeps 1 (accepts (HandBack 1) (Frame 5) b) → ⊥
   pub leaves : (b : Broker) → Keeps 1 (accepts (Leave 1) (Count 2) b) → ⊥
@@ -104,6 +104,7 @@ pub record WorkedExamples : Type 0 where
   pub no_leave : (c : ℕ) → AskOrDelivery (Leave c) → ⊥
   pub no_estimates : (c : ℕ) (e : Estimate) → AskOrDelivery (SetEstimate c e) → ⊥
   pub no_clock : (t : ℕ) → AskOrDelivery (SetClock t) → ⊥
+  pub asks : (s : SlipNumbers) (b : Broker) → AcceptsOnlyAsks (accepts (Deliver s) Done b ∷ accepts (Ask 1) (Granted s) b ∷ [])
   -- but they may be refused
   pub in_stretch : (b : Broker) → AcceptsOnlyAsks (refuses (HandBack 1) HoldsNoFrame b ∷ refuses (Ask 1) Outbid b ∷ [])
   pub no_stretch : (b : Broker) → AcceptsOnlyAsks (accepts (HandBack 1) (Frame 5) b ∷ refuses (Ask 1) Outbid b ∷ []) → ⊥

@@ -12,7 +12,7 @@ use Rattle.pool.specs.Ends.{leads, tick_of}
 use Rattle.pool.specs.Records.{Member, estimate_end, end_in, ended_in}
 use Rattle.pool.specs.Members.{Members, member_of, IsSetAt}
 use Rattle.pool.specs.View.{Pool, view, client_with}
-use Rattle.pool.specs.Clocks.{IsFirstEnded, DropsFrom}
+use Rattle.pool.specs.Clocks.{FindsEnded, DropsFrom}
 use Rattle.pool.proofs.Views.{seen_with}
 use Rattle.pool.proofs.Tables.{client_is, set_clients}
 use Rattle.ledger.specs.Ledgers.{stack_of}
@@ -37,7 +37,7 @@ none_ended m t o e first late c =
     later_in t (member_of m c) (λ s q. later_key t s (keys_in m.ends c) (λ k has. let led = first.leads c k has in grind (arith, nat_tests)) (m.ends_kept c ∙ q))
 
 -- an ended estimate is dropped from the table
-pub drop_one : (k : ℕ) (b : Pool) (t : Members) (c : ℕ) (x y : Member) → IsSetAt b.members c (Some y) t → IsFirstEnded b.members k (Some (c, x)) →
+pub drop_one : (k : ℕ) (b : Pool) (t : Members) (c : ℕ) (x y : Member) → IsSetAt b.members c (Some y) t → FindsEnded b.members k (Some (c, x)) →
     client_with y (stack_of b.ledger c) ≡ with_estimate (client_with x (stack_of b.ledger c)) None →
     DropsFrom k (view b) c (seen_with b t b.ledger)
 drop_one k b t c x y set (i, e, h) without =

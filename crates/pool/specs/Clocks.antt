@@ -1,6 +1,6 @@
 -- A clock that drops one estimate after another.
 --
--- IsFirstEnded   the client of an estimate that ends by a tick, with its record; or none, where no estimate does
+-- FindsEnded     the client of an estimate that ends by a tick, with its record; or none, where no estimate does
 -- at_tick        the broker with its clock at another tick
 -- DropsFrom      a client's estimate ended by a tick and was dropped, and nothing else was changed
 -- Drops          some client's estimate was dropped so; where there is no such client, no estimate ends by the tick
@@ -12,9 +12,9 @@ use Rattle.laws.specs.Calls.{lasting, ended, ends, moved, with_estimate}
 use Rattle.pool.specs.Records.{Member, ended_in}
 use Rattle.pool.specs.Members.{Members, member_of}
 
-abbrev pub IsFirstEnded : Members → ℕ → Option (ℕ × Member) → Type 0
-IsFirstEnded t k (Some p) = Numbered p.0 × (member_of t p.0 ≡ Some p.1) × (ended k p.1.estimate ≡ 1)
-IsFirstEnded t k None = (c : ℕ) → ended_in k (member_of t c) ≡ 0
+abbrev pub FindsEnded : Members → ℕ → Option (ℕ × Member) → Type 0
+FindsEnded t k (Some p) = Numbered p.0 × (member_of t p.0 ≡ Some p.1) × (ended k p.1.estimate ≡ 1)
+FindsEnded t k None = (c : ℕ) → ended_in k (member_of t c) ≡ 0
 
 abbrev pub at_tick : Broker → ℕ → Broker
 at_tick b t = record b { tick = t }

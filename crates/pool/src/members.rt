@@ -50,7 +50,7 @@ fn set_end(ends: &mut IndexedHeap<End, 257>, client: u32, end: Option<End>)
 
 impl Members {
     ghost use Rattle.pool.specs.Members.{member_of, IsSetAt};
-    ghost use Rattle.pool.specs.Clocks.{IsFirstEnded};
+    ghost use Rattle.pool.specs.Clocks.{FindsEnded};
 
     /// Nobody yet.
     pub(crate) fn new() -> Members
@@ -104,9 +104,9 @@ impl Members {
         shares
     }
 
-    /// The client whose estimate ends first, with its record, if that estimate ends by a tick.
+    /// A client whose estimate ends by a tick, with its record, if there is one.
     pub(crate) fn first_ended(&self, tick: u32) -> Option<(u32, Member)>
-        ensures { IsFirstEnded self.now tick result }
+        ensures { FindsEnded self.now tick result }
     {
         let (client, end) = self.ends.root()?;
         if end.tick > tick {

@@ -246,7 +246,7 @@ impl Pool {
         Ok(())
     }
 
-    /// Drops the estimate that ends first, if it ends by this tick, and returns whose it was.
+    /// Drops an estimate that ends by this tick, if there is one, and returns whose it was.
     pub fn drop_ended(&mut self, tick: u32) -> Option<u32>
         ensures { Drops tick (view self.old) result (view self.new) }
     {

@@ -130,7 +130,7 @@ impl<P: Price> Session<P> {
 
     /// Performs the lines of an input, and prints what comes of each, in order, under the line's number, from 1 on.
     ///
-    /// Where printing fails, the line that was to be printed has been performed, and those behind it have not.
+    /// Where printing fails, lines up to some one have been performed, and those after it have not.
     pub fn print_lines<W: Write>(&mut self, input: &[u8], out: &mut W) -> io::Result<()>
         ensures ok { OnOk result (LinesPrinted self.old input.now self.new (W.contents out.old) (W.contents out.new)) }
         ensures err { OnErr result (StopsWithin self.old input.now self.new) }
