@@ -17,7 +17,7 @@ use week::{friday, monday, tuesday, wednesday};
 fn main(rt: HostRuntime) -> anyhow::Result<()> {
     let taxed = TaxedPrice::new(75).unwrap();
     let classed = ClassPrice::new(taxed);
-    // Of a `PlainBroker<&dyn Price>` the check says that its bound is met by an impl that is not the only match.
+    // One type of price for all three, since a `&dyn Price` is no price.
     let mut brokers = [
         PlainBroker::new(Left(SharePrice)),
         PlainBroker::new(Right(Left(taxed))),

@@ -92,7 +92,7 @@ impl Line for Printed {
     }
 }
 
-// Apart from `Printed`, so that the printing of a line is compiled into the loop over the lines.
+// Apart from `Printed`: no event line gives one of these, and the report has no others.
 impl Line for Reported {
     ghost spelling = { reported_line };
 
