@@ -8,11 +8,11 @@ mod week;
 
 use broker::PlainBroker;
 use either::{Left, Right};
-use play::Play;
+use play::Plan;
 use price::{ClassPrice, SharePrice, TaxedPrice};
 use show::show_rest;
 use std::io::{BufWriter, Write};
-use week::{friday, monday, tuesday, wednesday};
+use week::{Day, friday, monday, tuesday, wednesday};
 
 fn main(rt: HostRuntime) -> anyhow::Result<()> {
     let taxed = TaxedPrice::new(75).unwrap();
@@ -28,18 +28,19 @@ fn main(rt: HostRuntime) -> anyhow::Result<()> {
         out,
         "call: under the share price; under the taxed price at 75; under the class price over it"
     )?;
-    let mut play = Play {
-        alloc: rt.alloc(),
+    let mut plan = Plan {
         brokers: &mut brokers,
         orders: Vec::new(rt.alloc()),
-        out: &mut out,
+        outcomes: Vec::new(rt.alloc()),
+        lines: Vec::new(rt.alloc()),
     };
-    play.day("monday", &monday())?;
-    play.day("tuesday", &tuesday())?;
-    play.day("wednesday", &wednesday())?;
-    play.day_of_passage("thursday")?;
-    play.day("friday", &friday())?;
-    drop(play);
+    plan.day(Day::Monday, &monday())?;
+    plan.day(Day::Tuesday, &tuesday())?;
+    plan.day(Day::Wednesday, &wednesday())?;
+    plan.day_of_passage(Day::Thursday)?;
+    plan.day(Day::Friday, &friday())?;
+    plan.perform(rt.alloc(), &mut out)?;
+    drop(plan);
     // The names stand beside the brokers, since `perform_all` takes a slice of brokers alone.
     for (name, broker) in ["share", "taxed", "class"].iter().zip(&brokers) {
         show_rest(name, broker.broker(), &mut out)?;

@@ -1,5 +1,6 @@
-//! Calls played on all brokers alike.
-use crate::show::{Asked, show_answers};
+//! The week as it is planned: its orders, and the lines that tell of them.
+use crate::show::show_line;
+use crate::week::Day;
 use broker::PlainBroker;
 use family::{Order, Outcome, perform_all};
 use price::Price;
@@ -9,73 +10,90 @@ use std::io::Write;
 use std::{array, io};
 
 /// How many brokers play.
-const BROKERS: usize = 3;
+pub const BROKERS: usize = 3;
 
-/// What each broker answered.
-pub type Answers = [Outcome; BROKERS];
+/// Where each broker's order stands among all orders; none where a broker was not called.
+pub type Places = [Option<usize>; BROKERS];
 
-/// The slip that a broker answered.
-fn slip(answer: Outcome) -> Option<SlipNumbers> {
-    answer?.ok()?.slip()
+/// What is printed of the week.
+#[derive(Clone, Copy, Drop)]
+pub enum Line {
+    /// That a day begins.
+    Day(Day),
+    /// A call on each broker.
+    Called(Call, Places),
+    /// The delivery of what was granted.
+    Delivered(Places),
 }
 
-/// The brokers that play, all orders so far, and where their answers are printed.
+/// A plan of the week. Only an answer has the numbers of a slip, so each order is performed as it is planned, on brokers
+/// of the plan's own.
 #[derive(Drop)]
-pub struct Play<'a, P: Price, W: Write> {
-    pub alloc: Global,
+pub struct Plan<'a, P: Price> {
     // Of a borrowed array of BROKERS it stayed open that it is borrowed as a slice (`whole_as_slice`).
     pub brokers: &'a mut [PlainBroker<P>],
     pub orders: Vec<Order>,
-    pub out: &'a mut W,
+    pub outcomes: Vec<Outcome>,
+    pub lines: Vec<Line>,
 }
 
-impl<P: Price, W: Write> Play<'_, P, W> {
-    /// Adds a call on one broker to the orders, performs all of them on new brokers, and returns the outcome of the last.
-    fn call_one(&mut self, broker: usize, call: Call) -> io::Result<Outcome> {
-        self.orders.push(Order { broker, call })?;
-        let mut outcomes = vec![in self.alloc; None; self.orders.len()]?;
-        perform_all(self.brokers, &self.orders, &mut outcomes).unwrap();
-        Ok(outcomes.last().copied().flatten())
+impl<P: Price> Plan<'_, P> {
+    /// The slip that the order at a place was answered, if it was answered one.
+    fn slip(&self, place: Option<usize>) -> Option<SlipNumbers> {
+        let outcome = *self.outcomes.get(place?)?;
+        outcome?.ok()?.slip()
     }
 
-    /// Performs a call on each broker.
-    fn call_each(&mut self, call: Call) -> io::Result<Answers> {
+    /// Adds a call on one broker to the orders, and returns its place.
+    fn call_one(&mut self, broker: usize, call: Call) -> io::Result<Option<usize>> {
+        let place = self.orders.len();
+        let mut outcome = None;
+        if broker < self.brokers.len() {
+            outcome = Some(self.brokers[broker].perform(call));
+        }
+        self.orders.push(Order { broker, call })?;
+        self.outcomes.push(outcome)?;
+        Ok(Some(place))
+    }
+
+    /// Adds a call on each broker.
+    fn call_each(&mut self, call: Call) -> io::Result<Places> {
         array::try_from_fn(|broker| self.call_one(broker, call))
     }
 
-    /// Delivers the slip of each answer that has one.
-    fn deliver_each(&mut self, answers: &Answers) -> io::Result<Answers> {
-        array::try_from_fn(|broker| match slip(answers[broker]) {
+    /// Adds the delivery of each slip that these orders were answered.
+    fn deliver_each(&mut self, places: &Places) -> io::Result<Places> {
+        array::try_from_fn(|broker| match self.slip(places[broker]) {
             Some(slip) => self.call_one(broker, Call::Deliver { slip }),
             None => Ok(None),
         })
     }
 
-    /// Performs a call on each broker, and prints the answers.
-    fn tell(&mut self, call: Call) -> io::Result<Answers> {
-        let answers = self.call_each(call)?;
-        show_answers(&Asked(call), &answers, self.out)?;
-        Ok(answers)
+    /// Adds a call on each broker, and its line.
+    fn tell(&mut self, call: Call) -> io::Result<Places> {
+        let places = self.call_each(call)?;
+        self.lines.push(Line::Called(call, places))?;
+        Ok(places)
     }
 
-    /// Delivers what was granted, and prints the answers.
-    fn tell_delivery(&mut self, answers: &Answers) -> io::Result<()> {
-        let delivered = self.deliver_each(answers)?;
-        show_answers(&"deliver", &delivered, self.out)
+    /// Adds the delivery of what was granted, and its line.
+    fn tell_delivery(&mut self, places: &Places) -> io::Result<()> {
+        let delivered = self.deliver_each(places)?;
+        self.lines.push(Line::Delivered(delivered))?;
+        Ok(())
     }
 
-    /// Plays one call on each broker, delivers what is granted, and prints the answers. It answers whether a broker has
-    /// granted a frame.
+    /// Adds one call on each broker, and the delivery of what is granted. It returns whether a broker has granted a frame.
     fn call(&mut self, call: Call) -> io::Result<bool> {
-        let answers = self.tell(call)?;
-        let granted = answers.iter().any(|answer| slip(*answer).is_some());
+        let places = self.tell(call)?;
+        let granted = places.iter().any(|place| self.slip(*place).is_some());
         if granted {
-            self.tell_delivery(&answers)?;
+            self.tell_delivery(&places)?;
         }
         Ok(granted)
     }
 
-    /// Plays calls one after the other.
+    /// Adds calls one after the other.
     fn calls(&mut self, calls: &[Call]) -> io::Result<()> {
         for call in calls {
             self.call(*call)?;
@@ -101,7 +119,7 @@ impl<P: Price, W: Write> Play<'_, P, W> {
     /// asks for it again; before the slip is delivered, client 2 asks, the clock is set, and a slip of unit 8 comes.
     fn passage(&mut self) -> io::Result<()> {
         self.call(Call::HandBack { client: 1 })?;
-        let answers = self.tell(Call::Ask { client: 1 })?;
+        let places = self.tell(Call::Ask { client: 1 })?;
         let wrong = SlipNumbers {
             unit: 8,
             client: 1,
@@ -114,21 +132,31 @@ impl<P: Price, W: Write> Play<'_, P, W> {
             Call::SetClock { tick: 15 },
             Call::Deliver { slip: wrong },
         ])?;
-        self.tell_delivery(&answers)
+        self.tell_delivery(&places)
     }
 
-    /// Plays the calls of a day, after which the clients ask until no broker grants anything.
-    // One `day` that takes a closure over the play is refused: "cannot state an item with such a type in a bound yet".
-    pub fn day(&mut self, name: &str, calls: &[Call]) -> io::Result<()> {
-        writeln!(self.out, "{name}")?;
+    /// Adds the calls of a day, after which the clients ask until no broker grants anything.
+    // One `day` that takes a closure over the plan is refused: "cannot state an item with such a type in a bound yet".
+    pub fn day(&mut self, day: Day, calls: &[Call]) -> io::Result<()> {
+        self.lines.push(Line::Day(day))?;
         self.calls(calls)?;
         self.settle()
     }
 
-    /// Plays a passage for a day, and the same asks after it.
-    pub fn day_of_passage(&mut self, name: &str) -> io::Result<()> {
-        writeln!(self.out, "{name}")?;
+    /// Adds a passage for a day, and the same asks after it.
+    pub fn day_of_passage(&mut self, day: Day) -> io::Result<()> {
+        self.lines.push(Line::Day(day))?;
         self.passage()?;
         self.settle()
+    }
+
+    /// Performs the whole week on new brokers, in one call, and prints what that call answers.
+    pub fn perform<W: Write>(&mut self, alloc: Global, out: &mut W) -> io::Result<()> {
+        let mut outcomes = vec![in alloc; None; self.orders.len()]?;
+        perform_all(self.brokers, &self.orders, &mut outcomes).unwrap();
+        for line in &self.lines {
+            show_line(line, &outcomes, out)?;
+        }
+        Ok(())
     }
 }

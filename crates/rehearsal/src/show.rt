@@ -1,5 +1,5 @@
 //! What is printed.
-use crate::play::Answers;
+use crate::play::{Line, Places};
 use broker::Broker;
 use family::Outcome;
 use price::Price;
@@ -74,14 +74,29 @@ impl fmt::Display for Priced {
     }
 }
 
-/// Prints what was called, and the answers of all brokers behind it.
-pub fn show_answers<C: fmt::Display, W: Write>(
+/// What the order at a place was answered; none where no broker was called.
+fn outcome_at(outcomes: &[Outcome], place: Option<usize>) -> Outcome {
+    *outcomes.get(place?)?
+}
+
+/// Prints what was called, and what the orders at these places were answered.
+fn show_answers<C: fmt::Display, W: Write>(
     called: &C,
-    answers: &Answers,
+    places: &Places,
+    outcomes: &[Outcome],
     out: &mut W,
 ) -> io::Result<()> {
-    let [share, taxed, class] = answers.map(Shown);
+    let [share, taxed, class] = places.map(|place| Shown(outcome_at(outcomes, place)));
     writeln!(out, "  {called}: {share}; {taxed}; {class}")
+}
+
+/// Prints a line of the week.
+pub fn show_line<W: Write>(line: &Line, outcomes: &[Outcome], out: &mut W) -> io::Result<()> {
+    match line {
+        Line::Day(day) => writeln!(out, "{day}"),
+        Line::Called(call, places) => show_answers(&Asked(*call), places, outcomes, out),
+        Line::Delivered(places) => show_answers(&"deliver", places, outcomes, out),
+    }
 }
 
 /// Prints what a broker has come to: the free frames, and what each client holds and pays.

@@ -1,5 +1,28 @@
 //! The calls of the week, besides the asks that lead to rest.
 use rules::{Admission, Call, Estimate};
+use std::fmt;
+
+/// A day of the week.
+#[derive(Clone, Copy, Drop)]
+pub enum Day {
+    Monday,
+    Tuesday,
+    Wednesday,
+    Thursday,
+    Friday,
+}
+
+impl fmt::Display for Day {
+    fn fmt<W: fmt::Write>(&self, f: &mut fmt::Formatter<W>) -> fmt::Result {
+        f.write_str(match self {
+            Day::Monday => "monday",
+            Day::Tuesday => "tuesday",
+            Day::Wednesday => "wednesday",
+            Day::Thursday => "thursday",
+            Day::Friday => "friday",
+        })
+    }
+}
 
 /// A pool of six frames and three clients: 300 shares of class 0 with a minimum of 1, 100 shares of class 1, and 200 shares
 /// of class 2 with a maximum of 4. An admission beyond the pool, one of a client that is there, and a second start are
