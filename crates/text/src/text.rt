@@ -71,12 +71,14 @@ impl Text {
         Ok(n)
     }
 
-    /// Prints the text and a newline.
+    /// Prints the text and a newline, in one write, so that no writer is left with a line without its newline.
     #[inline(always)]
     pub fn print<W: Write>(&self, out: &mut W) -> io::Result<()>
         ensures { OnOk result (Appends (W.contents out.old) (W.contents out.new) (spelt self.now ++ 10 ∷ [])) }
     {
-        out.write_all(self.as_bytes())?;
-        out.write_all(b"\n")
+        let mut line: ArrayVec<u8, 129> = ArrayVec::new();
+        let _text_fits = line.try_extend_from_slice(self.as_bytes());
+        let _newline_fits = line.try_push(b'\n');
+        out.write_all(line.as_slice())
     }
 }
