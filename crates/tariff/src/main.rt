@@ -12,10 +12,10 @@ use std::process::ExitCode;
 use std::{env, io};
 
 /// Why the arguments could not be read.
-fn unread(error: io::Error) -> Fault {
+fn unread(error: io::Error) -> anyhow::Error {
     match error.kind() {
-        io::ErrorKind::InvalidData => Fault::Text,
-        _ => Fault::Memory,
+        io::ErrorKind::InvalidData => Fault::Text.into(),
+        _ => error.into(),
     }
 }
 
