@@ -33,7 +33,7 @@ impl Bids {
     {
         let quote = Quote {
             class: 0,
-            top: 1,
+            top: 0,
             bottom: 1,
         };
         let unused = Bid {

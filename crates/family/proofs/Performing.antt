@@ -15,19 +15,19 @@ use Rattle.price.specs.declared.price.Price.{Ghosts}
 use Rattle.broker.specs.View.{meaning, view}
 use Rattle.broker.specs.declared.plain.PlainBroker.{PlainBroker}
 use Rattle.broker.specs.Plain.{broker_of}
-use Rattle.family.specs.Families.{Order, Outcome, At, FamilyRun, begin, next, nowhere, FamiliesKeepGuarantees, price_of, meanings, Performed}
+use Rattle.family.specs.Families.{Order, Outcome, At, Brokers, FamilyRun, begin, next, nowhere, FamiliesKeepGuarantees, price_of, meanings, Performed}
 use Rattle.family.specs.Orders.{Renewed, Called, Obeyed}
 use Rattle.family.proofs.Places.{Paired, paired_set, get_mapped, within_get}
 
 -- each broker's own events are a run of it
-abbrev Led : List Meaning → ℕ → List Event → Type 0
-Led ms i h = (m : Meaning) → At ms i m → Run m new_broker h (reached new_broker h)
+abbrev Led : List Meaning → Brokers → ℕ → List Event → Type 0
+Led ms bs i h = (m : Meaning) → At ms i m → Run m (bs i) h (reached (bs i) h)
 
-own_run : {ms : List Meaning} {os : List Order} {ts : List Outcome} {hs : ℕ → List Event} → FamilyRun ms os ts hs → (i : ℕ) → Led ms i (hs i)
+pub own_run : {ms : List Meaning} {bs : Brokers} {os : List Order} {ts : List Outcome} {hs : ℕ → List Event} → FamilyRun ms bs os ts hs → (i : ℕ) → Led ms bs i (hs i)
 own_run begin i = λ m e. start
-own_run {ms = ms} (next {hs = hs} {m = n} {a = a} {d = d} o r it s) i =
+own_run {ms = ms} {bs = bs} (next {hs = hs} {m = n} {a = a} {d = d} o r it s) i =
     let h = event o.call a d ∷ hs o.broker in
-    put_each hs o.broker h (Led ms) (λ m e. subst (λ m. Run m new_broker h d) (same_Some n m (sym it ∙ e)) (then (own_run r o.broker n it) s)) (λ j ne. own_run r j) i
+    put_each hs o.broker h (Led ms bs) (λ m e. subst (λ m. Run m (bs o.broker) h d) (same_Some n m (sym it ∙ e)) (then (own_run r o.broker n it) s)) (λ j ne. own_run r j) i
 own_run (nowhere o r l) i = own_run r i
 
 pub families_keep_guarantees : FamiliesKeepGuarantees
@@ -56,7 +56,7 @@ module _ {P : Type 0} {g : Ghosts P} where
   -- the first orders were performed
   pub record Sofar (bs : List (PlainBroker P g)) (os : List Order) (before : List Outcome) (i : ℕ) (cs : List (PlainBroker P g)) (after : List Outcome) : Type 0 where
     pub events : ℕ → List Event
-    pub run : FamilyRun (meanings bs) (take i os) (take i after) events
+    pub run : FamilyRun (meanings bs) (λ _. new_broker) (take i os) (take i after) events
     pub each : Paired (Stands events) bs cs
     pub brokers : length cs ≡ length bs
     pub beyond : drop i after ≡ drop i before
@@ -75,7 +75,7 @@ module _ {P : Type 0} {g : Ghosts P} where
 
   module _ {bs cs : List (PlainBroker P g)} {os : List Order} {before after : List Outcome} {i : ℕ} (s : Sofar bs os before i cs after) where
     module _ (fits : length os ≤ length before) (within : i < length os) {o : Order} (it : get_or os i o ≡ o) where
-      more : (t : Outcome) (hs : ℕ → List Event) (ds : List (PlainBroker P g)) → FamilyRun (meanings bs) (take i os ++ o ∷ []) (take i after ++ t ∷ []) hs →
+      more : (t : Outcome) (hs : ℕ → List Event) (ds : List (PlainBroker P g)) → FamilyRun (meanings bs) (λ _. new_broker) (take i os ++ o ∷ []) (take i after ++ t ∷ []) hs →
           Paired (Stands hs) bs ds → length ds ≡ length bs → Sofar bs os before (i + 1) ds (set after i t)
       more t hs ds r each size =
           let short : i < length after = omega (arith, s.long) in
@@ -108,7 +108,7 @@ module _ {P : Type 0} {g : Ghosts P} where
 
     pub all_done : ((p : P) → Lawful (g.meaning p)) → i ≡ length os → Performed bs os before cs after
     all_done lawful e =
-        let r : FamilyRun (meanings bs) os (take (length os) after) s.events = rw (← e) (rw (take_all i os (omega (arith, e))) at s.run) in
+        let r : FamilyRun (meanings bs) (λ _. new_broker) os (take (length os) after) s.events = rw (← e) (rw (take_all i os (omega (arith, e))) at s.run) in
         record {
           events = s.events;
           run = r;

@@ -1,5 +1,6 @@
 //! Bids that the rank orders.
 ghost use Rattle.std.specs.Prelude.{◌≡◌};
+ghost use Rattle.rules.specs.Laws.{IsFraction};
 ghost use Rattle.rules.specs.Offers.{InRange};
 ghost use Rattle.rules.specs.Rank.{bid, above};
 
@@ -8,11 +9,11 @@ use crate::price::Price;
 use heap::Order;
 use rules::Bid;
 
-/// A bid whose quote is in its ranges, as under every price. Among such bids the rank is an order.
+/// A bid whose quote is a fraction: the bottom is not 0, as under every price. Among such bids the rank is an order.
 #[derive(Clone, Copy, Drop)]
 pub struct ValidBid {
     pub bid: Bid,
-    ghost in_range: { InRange bid.quote },
+    ghost fraction: { IsFraction bid.quote },
 }
 
 /// Whether a bid ranks above another: five tests, of which the first that separates the two decides. Fractions are compared
@@ -40,9 +41,10 @@ fn ranks_above(a: &Bid, b: &Bid) -> bool
 }
 
 impl ValidBid {
-    /// The bid that a client with this minimum makes by this offer, under a price.
+    /// The bid that a client with this minimum makes by this offer, under a price. Its quote is in its ranges.
     pub fn new<P: Price>(price: &P, client: u32, minimum: u32, offer: ValidOffer) -> ValidBid
-        ensures { result.bid ≡ bid (P.Price.meaning price.now) client minimum offer.offer }
+        ensures value { result.bid ≡ bid (P.Price.meaning price.now) client minimum offer.offer }
+        ensures in_range { InRange result.bid.quote }
     {
         ValidBid {
             bid: Bid {
@@ -71,7 +73,7 @@ impl Order for ValidBid {
 
     ghost total = { λ x y. one_no_higher x.bid y.bid };
 
-    ghost chain = { λ x y z. no_higher_on x.bid y.bid z.bid x.in_range y.in_range z.in_range };
+    ghost chain = { λ x y z. no_higher_on x.bid y.bid z.bid x.fraction y.fraction z.fraction };
 
     fn no_later(&self, other: &ValidBid) -> bool {
         !self.ranks_above(other)

@@ -22,14 +22,23 @@ used_grows a j k h = grind arith
 bottom_grows : (r : ℕ) (a : Option ℕ) (j k : ℕ) → j ≤ k → taxed_bottom r a j ≤ taxed_bottom r a k
 bottom_grows r a j k h = let g = used_grows a j k h in omega (arith, mul-le-mul_left (100 - r) g.0)
 
+-- an active frame counts at least 1 in the bottom, and an idle one 100
+pub some_bottom : (r : ℕ) (a : Option ℕ) (k : ℕ) → r ≤ 99 → 1 ≤ k → 1 ≤ taxed_bottom r a k
+some_bottom r a k h g =
+    let p : 1 ≤ 100 - r = omega arith in omega (arith, used_le a k, mul-le-mul_left (used a k) p)
+
+-- and no frame counts more than 100
+pub few_bottom : (r : ℕ) (a : Option ℕ) (k : ℕ) → taxed_bottom r a k ≤ 100 * k
+few_bottom r a k = let q : 100 - r ≤ 100 = omega arith in omega (arith, used_le a k, mul-le-mul_left (used a k) q)
+
 pub taxed_is : (r : ℕ) → r ≤ 99 → Lawful (taxed r)
 taxed_is r h =
     record {
       in_range = λ o v.
           let p : 1 ≤ 100 - r = omega arith in
           let q : 100 - r ≤ 100 = omega arith in
-          let u = used o.active o.count in
-          omega (arith, mul-pos v.some_shares p, mul-le-mul v.few_shares q, used_le o.active o.count, mul-le-mul_left u p, mul-le-mul_left u q);
+          let low = some_bottom r o.active o.count h v.some_frame in
+          omega (arith, mul-pos v.some_shares p, mul-le-mul v.few_shares q, low, few_bottom r o.active o.count);
       one_class = λ o j k v w. refl;
       falling = λ o j k v w g. mul-le-mul_left (o.shares * (100 - r)) (bottom_grows r o.active j k g);
     }

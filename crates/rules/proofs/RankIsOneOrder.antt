@@ -3,7 +3,7 @@ use Rattle.std.proofs.Common.{◌≡◌, ℕ, ◌*◌, ◌<◌, ◌≤◌, true,
 use native.Mathlib.Nat.{le_of_mul-le-mul_left}
 use Rattle.std.proofs.lemmas.Bool.{not-true, not-false, not_from_false}
 use Rattle.std.proofs.lemmas.Bool.Decides.{nat_tests}
-use Rattle.rules.specs.Offers.{Offer, Meaning, Valid, at_count, InRange, Lawful}
+use Rattle.rules.specs.Offers.{Offer, Meaning, Valid, at_count, Lawful}
 use Rattle.rules.specs.Rank.{Bid, bid, ranks, above, Above, by_minimum, by_class, by_fraction, by_client, by_count, tests}
 use Rattle.rules.specs.Laws.{IsFraction, Apart, RankIsOneOrder}
 use Rattle.rules.proofs.Tests.{Weak, Each, ranks_asym, ranks_past}
@@ -56,10 +56,10 @@ past a b c pa pb pc h k = ranks_past Fair tests weak_all a b c pa pb pc h k
 pub one_no_higher : (a b : Bid) → not (above a b) ≡ false → not (above b a) ≡ true
 one_no_higher a b h = not_from_false (above b a) (asym a b (not-false (above a b) h))
 
-pub no_higher_on : (a b c : Bid) → InRange a.quote → InRange b.quote → InRange c.quote →
-    not (above a b) ≡ true → not (above b c) ≡ true → not (above a c) ≡ true
-no_higher_on a b c p q r h k =
-    not_from_false (above a c) (past a b c p.some_bottom q.some_bottom r.some_bottom (not-true (above a b) h) (not-true (above b c) k))
+pub no_higher_on : (a b c : Bid) → Fair a → Fair b → Fair c → not (above a b) ≡ true → not (above b c) ≡ true →
+    not (above a c) ≡ true
+no_higher_on a b c pa pb pc h k =
+    not_from_false (above a c) (past a b c pa pb pc (not-true (above a b) h) (not-true (above b c) k))
 
 pub decided : (a b : Bid) → Apart a b → Above a b ⊎ Above b a
 unfolding above ranks
