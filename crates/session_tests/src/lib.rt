@@ -5,3 +5,5 @@
 mod printed;
 #[cfg(test)]
 mod runs;
+#[cfg(test)]
+mod writes;
