@@ -7,7 +7,7 @@ use Rattle.rules.specs.declared.refusal.Fault.{Fault}
 use Rattle.rules.specs.declared.refusal.Refusal.{Refusal}
 use Rattle.events.specs.declared.word.Due.TheVariants as due
 use Rattle.events.specs.Grammar.{EventKind, letter, number_count, NoDigit, spaced, line_of, IsMissing}
-use Rattle.events.specs.Events.{Event, event_kind, event_numbers}
+use Rattle.events.specs.Events.{Event, event_kind, event_line, event_numbers, IsSized}
 use Rattle.events.specs.Faults.{Begins, LastStops, FirstFault, no_letter, no_space, no_number, no_end, Verdict}
 use Rattle.events.proofs.OneVerdict.{numbers_counted}
 use Rattle.events.proofs.ReaderFaults.{count_few}
@@ -93,9 +93,12 @@ fault_alike l m f a (no_end {k} {ns} {rest} begins all more) =
     let b = both_begin l m k ns rest a begins (omega arith) in
     no_end b.begins all (λ none. more (nil_from_length rest (omega (arith, b.wide, ap length (rw none at b.alike), length-take {A = ℕ}))))
 
+pub length_event_line : (e : Event) → IsSized e → length (event_line e) ≤ 56
+length_event_line e sized = omega (arith, length_spaced_numbers (event_numbers e) sized, numbers_counted e, count_few (event_kind e))
+
 pub first_80_decide : (l m : List ℕ) (r : Result Event Refusal) → take 80 m ≡ take 80 l → Verdict l r → Verdict m r
 first_80_decide l m (Ok e) a v =
-    let fits : length l ≤ 56 = omega (arith, ap length v.1, length_spaced_numbers (event_numbers e) v.0, numbers_counted e, count_few (event_kind e)) in
+    let fits : length l ≤ 56 = omega (arith, ap length v.1, length_event_line e v.0) in
     let cut : take 80 m ≡ l = a ∙ take_all 80 l (omega arith) in
     let whole : length m ≤ 80 = omega (arith, length-take 80 m, ap length cut) in
     (v.0, sym (take_all 80 m whole) ∙ cut ∙ v.1)

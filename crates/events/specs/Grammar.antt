@@ -27,7 +27,7 @@ NoDigit (b ∷ bs) = is_ascii_digit b ≡ false
 
 -- A letter is that of its kind, a separator is one space, and a number is its value in decimal, all of its digits.
 abbrev pub Says : Word → List ℕ → Type 0
-Says (word.Letter text column form) more = text.now ≡ letter form.kind ∷ []
+Says (word.Letter text column form) more = (text.now ≡ letter form.kind ∷ []) × (form.count ≡ number_count form.kind)
 Says (word.Number text column value) more = (value < 2 ^ 32) × (text.now ≡ decimal value) × NoDigit more
 Says (word.Separator text column) more = text.now ≡ 32 ∷ []
 

@@ -91,7 +91,7 @@ pub record IsBehind (line : List ℕ) (k : EventKind) (ns : List ℕ) (at : ℕ)
   pub place : at ≡ length (line_of k ns)
 
 abbrev pub ReadsForm : List ℕ → Result Form Fault → ℕ → Type 0
-ReadsForm line (Ok form) next = IsBehind line form.kind [] next
+ReadsForm line (Ok form) next = IsBehind line form.kind [] next × (form.count ≡ number_count form.kind)
 ReadsForm line (Err f) next = FirstFault line f
 
 abbrev pub ReadsNumbers : List ℕ → EventKind → Result (List ℕ) Fault → ℕ → Type 0

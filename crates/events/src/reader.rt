@@ -1,5 +1,6 @@
 //! A reader that goes over an event line from left to right, word by word, and stops at the first fault.
 ghost use Rattle.std.specs.Prelude.{◌≡◌, ◌≤◌, [], length};
+ghost use Rattle.events.specs.EventKinds.{number_count};
 ghost use Rattle.events.specs.Reading.{CountsDigits};
 ghost use Rattle.events.specs.declared.word.Due.TheVariants as due;
 
@@ -123,7 +124,7 @@ impl<'a> Reader<'a> {
 
     /// The numbers of a line, in the first places of five. The reader is right behind the line's letter.
     pub(crate) fn numbers(&mut self, form: Form) -> Result<[u32; 5], Fault>
-        requires { IsBehind self.old.line.now form.kind [] self.old.at }
+        requires { IsBehind self.old.line.now form.kind [] self.old.at × (form.count ≡ number_count form.kind) }
         ensures line { self.new.line ≡ self.old.line }
         ensures cases { ReadsNumbers self.old.line.now form.kind result self.new.at }
     {

@@ -44,13 +44,13 @@ pub enum EventKind {
 pub struct Form {
     pub kind: EventKind,
     pub count: usize,
-    pub ghost counted: { count ≡ number_count kind },
 }
 
 impl Form {
     /// What a letter says, if it is one of the seven.
     pub(crate) fn of(c: char) -> Option<Form>
-        ensures { MatchOption result ((k : EventKind) → letter k ≢ c) (λ f. letter f.kind ≡ c) }
+        ensures { MatchOption result ((k : EventKind) → letter k ≢ c)
+            (λ f. (letter f.kind ≡ c) × (f.count ≡ number_count f.kind)) }
     {
         let (kind, count) = match c {
             'S' => (EventKind::Start, 2),

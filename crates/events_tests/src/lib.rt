@@ -3,7 +3,7 @@
 
 #[cfg(test)]
 mod tests {
-    use events::{Event, LineFault, Lines, at_line, read, read_input};
+    use events::{Event, EventKind, Form, LineFault, Lines, Word, at_line, read, read_input};
     use rules::{Admission, Estimate, Fault, FaultKind, Refusal};
     use std::test::Fail;
     use text::Line;
@@ -101,6 +101,21 @@ mod tests {
         assert_eq!(rt; &out[..4], b"####".as_slice());
         assert_eq!(rt; Event::Ask { client: 12 }.write(&mut out), Ok(4));
         assert_eq!(rt; &out[..4], b"Q 12".as_slice());
+    }
+
+    #[test]
+    fn text_of_a_word_of_ones_own(rt: HostRuntime) {
+        // A word that the reader did not make has a text too, even one whose count is not that of its kind.
+        let form = Form {
+            kind: EventKind::Ask,
+            count: 5,
+        };
+        let letter = Word::Letter {
+            text: b"Q",
+            column: 1,
+            form,
+        };
+        assert_eq!(rt; letter.text(), b"Q".as_slice());
     }
 
     #[test]

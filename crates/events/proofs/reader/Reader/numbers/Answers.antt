@@ -17,6 +17,6 @@ pub returns-in_err-number-clause-cases : goal.returns-in_err-number-clause-cases
 returns-in_err-number-clause-cases c =
     let p = err_from_is_err_and c.from_residual.result c.from_residual.ensures.1 in
     let same = c.loop-number.invariant.0 in
-    let long = as_many c.args.form.kind c.loop-number.number-items c.args.form.count c.args.form.counted c.loop-number.auto.number-items in
+    let long = as_many c.args.form.kind c.loop-number.number-items c.args.form.count c.requires.1 c.loop-number.auto.number-items in
     let few = length-take-le c.loop-number.number-index c.loop-number.number-items (omega (arith, c.loop-number-test.true, c.loop-number.auto.number-items)) in
-    rw (p.1, p.2) (number_fault _ _ _ _ _ _ (ap (λ l. l.now) same) (c.loop-number.invariant.1 _ c.requires) (omega (arith, few, long, c.args.form.counted, c.loop-number-test.true)) c.in_err-number.ensures.cases)
+    rw (p.1, p.2) (number_fault _ _ _ _ _ _ (ap (λ l. l.now) same) (c.loop-number.invariant.1 _ c.requires.0) (omega (arith, few, long, c.requires.1, c.loop-number-test.true)) c.in_err-number.ensures.cases)
