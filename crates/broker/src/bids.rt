@@ -52,7 +52,7 @@ impl Bids {
     pub(crate) fn renew<P: Price>(&mut self, price: &P, pool: &Pool, client: u32)
         ensures { Renews (P.Price.meaning price.now) (view pool.now) client self.old self.new }
     {
-        let holding = pool.holding(client);
+        let holding = pool.frames_of(client);
         if let Ok(member) = pool.member(client)
             && holding > member.minimum
         {

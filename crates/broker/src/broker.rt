@@ -79,7 +79,7 @@ impl<P: Price> Broker<P> {
         let Some(lowest) = self.bids.lowest() else {
             return Err(Refusal::Outbid);
         };
-        let holding = self.pool.holding(client);
+        let holding = self.pool.frames_of(client);
         if holding >= member.minimum {
             let bid = bids::bid(&self.price, client, member, holding + 1);
             if !bid.ranks_above(&lowest) {
@@ -195,8 +195,7 @@ impl<P: Price> Broker<P> {
     pub fn holding(&self, client: u32) -> Result<u32, Refusal>
         ensures { Replies (client_entries (view self.now) client) (λ n. n ≡ holding (view self.now) client) result }
     {
-        self.pool.member(client)?;
-        Ok(self.pool.holding(client))
+        self.pool.holding(client)
     }
 
     /// A client's proportional share of the frames, rounded down. A client number outside 1 to 256 is refused, and then a

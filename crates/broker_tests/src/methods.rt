@@ -6,6 +6,14 @@ use price::SharePrice;
 use rules::{Answer, Call, Estimate, Refusal, SlipNumbers};
 use std::test::Fail;
 
+/// A broker of one frame, with a client that may hold it.
+fn with_one_client(unit: u32) -> Result<Broker<SharePrice>, Refusal> {
+    let mut broker = Broker::new(SharePrice);
+    broker.start(unit, 1)?;
+    broker.admit(admission(1, 1, 0, 0, 1))?;
+    Ok(broker)
+}
+
 #[test]
 fn a_delivered_slip_closes_its_passage(rt: HostRuntime) -> Result<(), Fail> {
     let mut broker = Broker::new(SharePrice);
@@ -20,6 +28,12 @@ fn a_delivered_slip_closes_its_passage(rt: HostRuntime) -> Result<(), Fail> {
         asks: 1,
     };
     assert_eq!(rt; ask_and_deliver(&mut broker, 1), Ok(first));
+    // a slip of the same five numbers, which another broker granted, is refused now
+    let mut other = with_one_client(7)?;
+    assert_eq!(rt;
+        deliver_elsewhere_first(&mut other, &mut broker, 1),
+        Ok(Some(Refusal::NotTheOpenSlip))
+    );
     broker.estimate(1, Estimate { active: 1, end: 3 })?;
     let second = SlipNumbers {
         client: 2,
@@ -51,15 +65,45 @@ fn a_delivered_slip_closes_its_passage(rt: HostRuntime) -> Result<(), Fail> {
 
 #[test]
 fn a_refused_delivery_hands_the_slip_back(rt: HostRuntime) -> Result<(), Fail> {
-    let mut broker = Broker::new(SharePrice);
-    broker.start(7, 1)?;
-    broker.admit(admission(1, 1, 0, 0, 1))?;
+    let mut broker = with_one_client(7)?;
     let mut other = Broker::new(SharePrice);
     assert_eq!(rt;
         deliver_elsewhere_first(&mut broker, &mut other, 1),
         Ok(Some(Refusal::NotTheOpenSlip))
     );
     assert_eq!(rt; broker.clock(1), Ok(0));
+    Ok(())
+}
+
+#[test]
+fn a_slip_is_judged_by_its_numbers(rt: HostRuntime) -> Result<(), Fail> {
+    // another unit hands the slip back; the same five numbers close the passage of another broker
+    for (unit, refusal, first, second) in [
+        (
+            8,
+            Some(Refusal::NotTheOpenSlip),
+            Ok(0),
+            Err(Refusal::PassageOpen),
+        ),
+        (7, None, Err(Refusal::PassageOpen), Ok(0)),
+    ] {
+        let mut broker = with_one_client(7)?;
+        let mut other = with_one_client(unit)?;
+        let left = other.ask(1)?;
+        assert_eq!(rt;
+            deliver_elsewhere_first(&mut broker, &mut other, 1),
+            Ok(refusal)
+        );
+        assert_eq!(rt; broker.clock(1), first);
+        assert_eq!(rt; other.clock(1), second);
+        // the slip that is left closes the passage that is open still
+        let delivered = match first {
+            Ok(_) => other.deliver(left),
+            Err(_) => broker.deliver(left),
+        };
+        assert!(rt; delivered.is_ok());
+        delivered.unwrap();
+    }
     Ok(())
 }
 
@@ -73,7 +117,7 @@ fn with_open_passage(unit: u32) -> Result<PlainBroker<SharePrice>, Refusal> {
 }
 
 #[test]
-fn a_slip_is_judged_by_its_numbers(rt: HostRuntime) -> Result<(), Fail> {
+fn plain_numbers_are_judged_as_a_slip_is(rt: HostRuntime) -> Result<(), Fail> {
     let slip = SlipNumbers {
         unit: 7,
         client: 1,

@@ -148,7 +148,7 @@ impl Pool {
         ensures { Judges self.now (Ask client) (IsAdmittedAs self.now client) result }
     {
         let member = self.caller(client)?;
-        if self.holding(client) >= member.maximum {
+        if self.frames_of(client) >= member.maximum {
             return Err(Refusal::AtMaximum);
         }
         Ok(member)
@@ -271,8 +271,16 @@ impl Pool {
         self.members.get(client).ok_or(Refusal::NotAdmitted)
     }
 
-    /// How many frames a client holds; one that is not admitted holds none.
-    pub fn holding(&self, client: u32) -> u32
+    /// How many frames a client holds. A client number outside 1 to 256 is refused, and then a client that is not admitted.
+    pub fn holding(&self, client: u32) -> Result<u32, Refusal>
+        ensures { Replies (client_entries (view self.now) client) (λ n. n ≡ holding (view self.now) client) result }
+    {
+        self.member(client)?;
+        Ok(self.frames_of(client))
+    }
+
+    /// How many frames a client holds, without a test of its number; one that is not admitted holds none.
+    pub fn frames_of(&self, client: u32) -> u32
         ensures { result ≡ holding (view self.now) client }
     {
         match client {
