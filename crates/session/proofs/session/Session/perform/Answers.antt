@@ -9,8 +9,9 @@ returns-in-Start g c = rw c.in-Start.is (performed _ (λ t. pool) (λ t p k. sea
 pub returns-in-Admit : goal.returns-in-Admit
 returns-in-Admit g c = rw c.in-Admit.is (performed _ (λ t. admit) (λ t p k. search rules) c.admit.ensures c.map-in-Admit.ensures.cases)
 
+-- the call is not named here, so that another call in its place is refused for what it does
 pub returns-in-HandBack : goal.returns-in-HandBack
-returns-in-HandBack g c = rw c.in-HandBack.is (performed _ (λ t. back) (λ t p k. search rules) c.hand_back.ensures c.map-in-HandBack.ensures.cases)
+returns-in-HandBack g c = rw c.in-HandBack.is (performed _ (λ t. back {f = t}) (λ t p k. search rules) (assumption c) c.map-in-HandBack.ensures.cases)
 
 pub returns-in-Leave : goal.returns-in-Leave
 returns-in-Leave g c = rw c.in-Leave.is (performed _ (λ t. leave) (λ t p k. search rules) c.leave.ensures c.map-in-Leave.ensures.cases)
