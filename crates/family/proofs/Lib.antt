@@ -1,2 +1,2 @@
 mod Places
-mod Performing
+pub mod Performing
