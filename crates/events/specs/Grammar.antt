@@ -25,7 +25,8 @@ abbrev pub NoDigit : List ℕ → Type 0
 NoDigit [] = Unit {0}
 NoDigit (b ∷ bs) = is_ascii_digit b ≡ false
 
--- A letter is that of its kind, a separator is one space, and a number is its value in decimal, all of its digits.
+-- A letter is that of its kind, with as many numbers to come as its kind has; a separator is one space; and a number is its
+-- value in decimal, all of its digits.
 abbrev pub Says : Word → List ℕ → Type 0
 Says (word.Letter text column form) more = (text.now ≡ letter form.kind ∷ []) × (form.count ≡ number_count form.kind)
 Says (word.Number text column value) more = (value < 2 ^ 32) × (text.now ≡ decimal value) × NoDigit more

@@ -2,13 +2,13 @@
 //! prints each answer and where each broker comes to rest.
 #![tactic(auto)]
 
-mod play;
+mod plan;
 mod show;
 mod week;
 
 use broker::PlainBroker;
 use either::{Left, Right};
-use play::Plan;
+use plan::Plan;
 use price::{ClassPrice, SharePrice, TaxedPrice};
 use show::show_rest;
 use std::io::{BufWriter, Write};

@@ -1,5 +1,5 @@
 //! What is printed.
-use crate::play::{Line, Places};
+use crate::plan::{Places, WeekLine};
 use broker::Broker;
 use family::Outcome;
 use price::Price;
@@ -91,11 +91,11 @@ fn show_answers<C: fmt::Display, W: Write>(
 }
 
 /// Prints a line of the week.
-pub fn show_line<W: Write>(line: &Line, outcomes: &[Outcome], out: &mut W) -> io::Result<()> {
+pub fn show_line<W: Write>(line: &WeekLine, outcomes: &[Outcome], out: &mut W) -> io::Result<()> {
     match line {
-        Line::Day(day) => writeln!(out, "{day}"),
-        Line::Called(call, places) => show_answers(&Asked(*call), places, outcomes, out),
-        Line::Delivered(places) => show_answers(&"deliver", places, outcomes, out),
+        WeekLine::Day(day) => writeln!(out, "{day}"),
+        WeekLine::Called(call, places) => show_answers(&Asked(*call), places, outcomes, out),
+        WeekLine::Delivered(places) => show_answers(&"deliver", places, outcomes, out),
     }
 }
 

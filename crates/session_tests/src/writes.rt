@@ -26,7 +26,7 @@ impl Write for Writes {
     }
 }
 
-/// No write leaves a line without its newline, so a buffer never sends a line off in two parts where it need not.
+/// Each line is handed on with its newline, so that a buffer sends none off before its newline.
 #[test]
 fn each_line_takes_one_write(rt: HostRuntime) -> Result<(), Fail> {
     let mut out = Writes {

@@ -71,11 +71,12 @@ impl Text {
         Ok(n)
     }
 
-    /// Prints the text and a newline, in one write, so that no writer is left with a line without its newline.
+    /// Prints the text and a newline. They are handed on together, so that a buffer sends no line off before its newline.
     #[inline(always)]
     pub fn print<W: Write>(&self, out: &mut W) -> io::Result<()>
         ensures { OnOk result (Appends (W.contents out.old) (W.contents out.new) (spelt self.now ++ 10 ∷ [])) }
     {
+        // The newline takes one place more than a text has.
         let mut line: ArrayVec<u8, 129> = ArrayVec::new();
         let _text_fits = line.try_extend_from_slice(self.as_bytes());
         let _newline_fits = line.try_push(b'\n');

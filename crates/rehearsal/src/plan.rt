@@ -10,14 +10,14 @@ use std::io::Write;
 use std::{array, io};
 
 /// How many brokers play.
-pub const BROKERS: usize = 3;
+const BROKERS: usize = 3;
 
 /// Where each broker's order stands among all orders; none where a broker was not called.
 pub type Places = [Option<usize>; BROKERS];
 
-/// What is printed of the week.
+/// A line that is printed of the week.
 #[derive(Clone, Copy, Drop)]
-pub enum Line {
+pub enum WeekLine {
     /// That a day begins.
     Day(Day),
     /// A call on each broker.
@@ -26,15 +26,15 @@ pub enum Line {
     Delivered(Places),
 }
 
-/// A plan of the week. Only an answer has the numbers of a slip, so each order is performed as it is planned, on brokers
-/// of the plan's own.
+/// A plan of the week. Only an answer has the numbers of a slip, so each order is performed as it is planned, on the
+/// brokers that are made new for the week itself.
 #[derive(Drop)]
 pub struct Plan<'a, P: Price> {
     // Of a borrowed array of BROKERS it stayed open that it is borrowed as a slice (`whole_as_slice`).
     pub brokers: &'a mut [PlainBroker<P>],
     pub orders: Vec<Order>,
     pub outcomes: Vec<Outcome>,
-    pub lines: Vec<Line>,
+    pub lines: Vec<WeekLine>,
 }
 
 impl<P: Price> Plan<'_, P> {
@@ -72,14 +72,14 @@ impl<P: Price> Plan<'_, P> {
     /// Adds a call on each broker, and its line.
     fn tell(&mut self, call: Call) -> io::Result<Places> {
         let places = self.call_each(call)?;
-        self.lines.push(Line::Called(call, places))?;
+        self.lines.push(WeekLine::Called(call, places))?;
         Ok(places)
     }
 
     /// Adds the delivery of what was granted, and its line.
     fn tell_delivery(&mut self, places: &Places) -> io::Result<()> {
         let delivered = self.deliver_each(places)?;
-        self.lines.push(Line::Delivered(delivered))?;
+        self.lines.push(WeekLine::Delivered(delivered))?;
         Ok(())
     }
 
@@ -138,14 +138,14 @@ impl<P: Price> Plan<'_, P> {
     /// Adds the calls of a day, after which the clients ask until no broker grants anything.
     // One `day` that takes a closure over the plan is refused: "cannot state an item with such a type in a bound yet".
     pub fn day(&mut self, day: Day, calls: &[Call]) -> io::Result<()> {
-        self.lines.push(Line::Day(day))?;
+        self.lines.push(WeekLine::Day(day))?;
         self.calls(calls)?;
         self.settle()
     }
 
     /// Adds a passage for a day, and the same asks after it.
     pub fn day_of_passage(&mut self, day: Day) -> io::Result<()> {
-        self.lines.push(Line::Day(day))?;
+        self.lines.push(WeekLine::Day(day))?;
         self.passage()?;
         self.settle()
     }
